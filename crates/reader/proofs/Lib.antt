@@ -1,0 +1,13 @@
+pub mod Shift
+pub mod Row
+pub mod Tests
+pub mod Each
+pub mod Fields
+pub mod Turns
+pub mod Instructions
+pub mod Kept
+pub mod Parts
+pub mod CellRange
+pub mod ProgramRange
+pub mod ScheduleRange
+pub mod Accepted
