@@ -1,0 +1,12 @@
+pub mod Bits
+pub mod Newest
+pub mod Ten
+pub mod Take
+pub mod PlainTake
+pub mod Runs
+pub mod Kept
+pub mod InRange
+pub mod Forward
+pub mod PlainRun
+pub mod Frame
+pub mod Shape

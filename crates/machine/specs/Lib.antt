@@ -1,0 +1,9 @@
+pub mod Integer
+pub mod Buffer
+pub mod Action
+pub mod Effect
+pub mod Look
+pub mod Run
+pub mod Step
+pub mod Plain
+pub mod Forward

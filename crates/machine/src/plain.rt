@@ -1,0 +1,88 @@
+// The machine of one memory: the same instructions on a state whose buffers are not used.
+ghost use mathlib.Core.Path.{_≡_};
+ghost use Prim.Native.Nat.{_≤_, _<_};
+ghost use lib.ListN.{length};
+ghost use Rattle.reader.specs.Range.{InRange};
+ghost use Rattle.reader.specs.State.{noQueue};
+ghost use Rattle.machine.specs.Run.{Answers};
+ghost use Rattle.machine.specs.Plain.{Threads, atOnce, plainStep, plainOf};
+use crate::effect;
+use crate::effect::Effect;
+use crate::outcome;
+use crate::outcome::Outcome;
+use crate::outcome::Ran;
+use reader::bytes;
+use reader::state::Pending;
+use reader::state::Queue;
+use reader::state::State;
+
+// A store reaches memory at once.
+fn at_once(e: Effect) -> Effect
+    ensures { λ r. ⌜ r ≡ atOnce e ⌝ }
+{
+    let mut f = e;
+    f.pushed = 0;
+    f.pushes = false;
+    if e.pushes {
+        f.word = e.pushed;
+    }
+    f
+}
+
+// The buffer of every thread here.
+fn no_queue() -> Queue
+    ensures { λ r. ⌜ r ≡ noQueue ⌝ }
+{
+    let entry = Pending { value: 0, cell: 0 };
+    let entries = [entry; State::DEPTH];
+    Queue {
+        entries: entries,
+        count: 0,
+    }
+}
+
+// The next instruction of row t.
+pub fn stepped(m: State, t: usize) -> Outcome
+    requires { ⌜ InRange m × (t < m .threads) ⌝ }
+    ensures { λ r. ⌜ r ≡ plainStep m t ⌝ }
+{
+    let at = m.positions[t];
+    let end = m.counts[t];
+    if end <= at {
+        return outcome::refused(m, 20);
+    }
+    let p = effect::code_place(t, at);
+    let i = m.code[p];
+    let v = effect::looked(&m.memory, &m.registers, t, at, i);
+    let e = at_once(effect::change(v, no_queue(), i));
+    outcome::taken(effect::applied(m, t, i, e), e.value)
+}
+
+// A whole order of threads, until the first that is at its end. One value for each step.
+pub fn ran(m: State, order: &[u8], values: &mut [i32]) -> Ran
+    requires { ⌜ InRange m × (Threads (m .threads) (now order) × (length (now order) ≤ length (now values))) ⌝ }
+    ensures { λ r. ⌜ Answers plainOf m (now (order .entry)) (now (values .entry)) r (now (values .exit)) ⌝ }
+{
+    let mut s = m;
+    let mut k = 0;
+    while k < order.len() {
+        let o = stepped(s, bytes::wide(order[k] - 1));
+        if o.number != 0 {
+            return Ran {
+                state: s,
+                place: k,
+                number: o.number,
+            };
+        }
+        let v = o.value;
+        values[k] = v;
+        let next = o.state;
+        s = next;
+        k += 1;
+    }
+    Ran {
+        state: s,
+        place: k,
+        number: 0,
+    }
+}
