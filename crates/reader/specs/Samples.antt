@@ -16,7 +16,7 @@ pub smallest : List ℕ
 smallest = 1 ∷ 0 ∷ 15 ∷ 1 ∷ 1 ∷ 1 ∷ 0 ∷ 0 ∷ 0 ∷ 0 ∷ 0 ∷ 1 ∷ 0 ∷ 0 ∷ 0 ∷ []
 
 -- "R1 whole, bytes in hexadecimal (52 bytes)"
-pub r1 : List ℕ
+unfoldable pub r1 : List ℕ
 r1 =
     (0x01 ∷ 0x00 ∷ 0x34 ∷ 0x02 ∷ 0x02 ∷ 0x01 ∷ [])
     ++ (0x00 ∷ 0x00 ∷ 0x00 ∷ 0x00 ∷ 0x00 ∷ 0x01 ∷ [])

@@ -1,0 +1,95 @@
+-- What is decided of a thread's next instruction is the checked step of the definition.
+use Prim.Native.Nat.{ℕ, zero, suc, _<_, _≤_}
+use mathlib.Core.Bool.{Bool, true, false}
+use mathlib.Core.Path.{_≡_, refl, sym, ap, _∙_}
+use native.Mathlib.Omega.{arith}
+use lib.Dec.{eqb}
+use borrow.Author.Tests.{eq-eqb, ne-eqb, eqb-true, eqb-false}
+use Rattle.reader.specs.declared.state.Instruction.{Instruction}
+use Rattle.reader.specs.declared.state.State.{State}
+use Rattle.reader.specs.Limits.{DEPTH}
+use Rattle.reader.specs.State.{queueOf, positionOf, countOf}
+use Rattle.reader.specs.Rules.{pick}
+use Rattle.reader.specs.Range.{InRange}
+use Rattle.machine.specs.declared.effect.Effect.{Effect}
+use Rattle.machine.specs.declared.outcome.Outcome.{Outcome}
+use Rattle.machine.specs.Action.{actionOf, currentOf, nextOf}
+use Rattle.machine.specs.Effect.{blockedOf, effectOf, tookOf}
+use Rattle.machine.specs.Look.{lookedOf}
+use Rattle.machine.specs.Run.{refusedOf, takenOf, unless}
+use Rattle.machine.specs.Step.{nextEffect, takeStep}
+use Rattle.machine.proofs.Take.{unless-zero, unless-not, row-few, position-below, current-lookable, next-action, seen-same, end-step}
+use Rattle.discipline.specs.declared.table.Held.{Held}
+use Rattle.discipline.specs.declared.decide.Decision.{Decision}
+use Rattle.discipline.specs.Table.{heldOf, holdingOf}
+use Rattle.discipline.specs.Elsewhere.{Rows}
+use Rattle.discipline.specs.Step.{nextHeld, nextBroken, nextMarks, checkedTake}
+use Rattle.discipline.specs.Decide.{judgedOf, decisionOf, decidedOf, Decidable}
+
+-- the rows of a state in range can be searched
+pub rows-in : {s : State} → InRange s → Rows (s .queues) (s .threads)
+rows-in g = record { fewThreads = g .threads; few = λ t h. row-few g h }
+
+pub decidable-in : {s : State} (g : InRange s) {t : ℕ} (h : t < s .threads) {i : Instruction} → positionOf s t < countOf s t → i ≡ currentOf s t → Decidable (s .queues) (s .threads) t (positionOf s t) i
+decidable-in g h l e = record { look = current-lookable g h l e; rows = rows-in g; thread = h; position = position-below g h l }
+
+-- a program at its end
+pub end-checked : (s : State) (t : ℕ) → countOf s t ≤ positionOf s t → refusedOf s 20 ≡ checkedTake s t
+unfolding checkedTake unless
+end-checked s t l = rw (← end-step s t l)
+
+-- what the machine answers, by its number
+module _ (s : State) (t : ℕ) where
+  taken-machine : blockedOf (s .depth) (queueOf s t) (nextOf s t) ≡ 0 → takeStep s t ≡ takenOf (tookOf s t (currentOf s t) (nextEffect s t)) (nextEffect s t .value)
+  unfolding takeStep
+  taken-machine z = unless-zero s _ z
+
+  refused-machine : (blockedOf (s .depth) (queueOf s t) (nextOf s t) ≡ 0 → ⊥) → takeStep s t ≡ refusedOf s (blockedOf (s .depth) (queueOf s t) (nextOf s t))
+  unfolding takeStep
+  refused-machine z = unless-not _ s _ z
+
+  blocked-checked : (blockedOf (s .depth) (queueOf s t) (nextOf s t) ≡ 0 → ⊥) → refusedOf s (blockedOf (s .depth) (queueOf s t) (nextOf s t)) ≡ checkedTake s t
+  unfolding checkedTake
+  blocked-checked n = rw (refused-machine n) (sym (unless-not _ s _ n))
+
+  broken-checked : blockedOf (s .depth) (queueOf s t) (nextOf s t) ≡ 0 → (nextBroken s t ≡ 0 → ⊥) → refusedOf s (nextBroken s t) ≡ checkedTake s t
+  unfolding checkedTake
+  broken-checked z n = rw (taken-machine z) (sym (unless-zero s _ refl ∙ unless-not _ s _ n))
+
+  first-refusal : (judgedOf (blockedOf (s .depth) (queueOf s t) (nextOf s t)) (nextBroken s t) ≡ 0 → ⊥) → refusedOf s (judgedOf (blockedOf (s .depth) (queueOf s t) (nextOf s t)) (nextBroken s t)) ≡ checkedTake s t
+  first-refusal = go (eqb (blockedOf (s .depth) (queueOf s t) (nextOf s t)) 0) refl
+    where
+      go : (b : Bool) → eqb (blockedOf (s .depth) (queueOf s t) (nextOf s t)) 0 ≡ b → (pick b (nextBroken s t) (blockedOf (s .depth) (queueOf s t) (nextOf s t)) ≡ 0 → ⊥) → refusedOf s (pick b (nextBroken s t) (blockedOf (s .depth) (queueOf s t) (nextOf s t))) ≡ checkedTake s t
+      go true e n = broken-checked (eqb-true _ _ e) n
+      go false e n = blocked-checked n
+
+  -- an instruction that nothing holds back
+  pub both-checked : blockedOf (s .depth) (queueOf s t) (nextOf s t) ≡ 0 → nextBroken s t ≡ 0 → checkedTake s t ≡ takenOf (holdingOf (tookOf s t (currentOf s t) (nextEffect s t)) t (currentOf s t) (nextMarks s t)) (nextEffect s t .value)
+  unfolding checkedTake
+  both-checked z n = rw (taken-machine z) (unless-zero s _ refl ∙ unless-zero s _ n)
+
+pub judged-first : (a b : ℕ) → judgedOf a b ≡ 0 → (a ≡ 0) × (b ≡ 0)
+judged-first zero b e = (refl, e)
+judged-first (suc a) b e = let z = rw (ne-eqb (suc a) 0 (λ q. omega arith)) at e in absurd (omega arith)
+
+-- the decision d about instruction i, found at the position
+module _ (s : State) (t : ℕ) {i : Instruction} {d : Decision} (l : positionOf s t < countOf s t) (ei : i ≡ currentOf s t) (ed : d ≡ decidedOf (s .memory) (s .registers) (s .owners) (s .sharing) (s .dirty) (s .queues) (s .threads) (s .depth) t (positionOf s t) i) where
+  pub decided-same : d ≡ record { effect = nextEffect s t; held = nextMarks s t; number = judgedOf (blockedOf (s .depth) (queueOf s t) (nextOf s t)) (nextBroken s t) }
+  unfolding decidedOf decisionOf
+  decided-same = ed ∙ rw (next-action s t {i = i} l ei refl, seen-same s t {i = i} l ei refl, ei)
+
+  number-same : d .number ≡ judgedOf (blockedOf (s .depth) (queueOf s t) (nextOf s t)) (nextBroken s t)
+  number-same = ap (λ (x : Decision). x .number) decided-same
+
+  pub refused-checked : (d .number ≡ 0 → ⊥) → refusedOf s (d .number) ≡ checkedTake s t
+  refused-checked z = rw number-same (first-refusal s t (rw number-same at z))
+
+  module _ (z : d .number ≡ 0) where
+    pub unblocked : blockedOf (s .depth) (queueOf s t) (nextOf s t) ≡ 0
+    unblocked = judged-first _ _ (sym number-same ∙ z) .0
+
+    pub unbroken : nextBroken s t ≡ 0
+    unbroken = judged-first (blockedOf (s .depth) (queueOf s t) (nextOf s t)) _ (sym number-same ∙ z) .1
+
+    pub taken-checked : {m : State} → m ≡ holdingOf (tookOf s t i (d .effect)) t i (d .held) → takenOf m (d .effect .value) ≡ checkedTake s t
+    taken-checked em = rw (em, decided-same, ei) (sym (both-checked s t unblocked unbroken))

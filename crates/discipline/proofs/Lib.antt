@@ -1,0 +1,10 @@
+pub mod Searches
+pub mod Decided
+pub mod Sound
+pub mod Turns
+pub mod Copied
+pub mod Checked
+pub mod One
+pub mod Meaning
+pub mod Coincide
+pub mod Fence

@@ -1,0 +1,84 @@
+-- The turns of the run: what the code does at one item is the checked step of it, and the states stay runnable.
+use Prim.Native.Nat.{ℕ, _+_, _-_, _<_, _≤_}
+use mathlib.Core.Bool.{Bool, true, false}
+use mathlib.Core.Path.{_≡_, refl, sym, ap, _∙_}
+use mathlib.Core.List.{List}
+use native.Mathlib.Omega.{arith}
+use lib.ListN.{length, getD, set}
+use lib.Dec.{eqb, leb}
+use lib.IntN.{ℤ, pos}
+use borrow.Author.Tests.{le-leb, lt-leb, eq-eqb, ne-eqb}
+use Rattle.reader.specs.declared.state.Queue.{Queue}
+use Rattle.reader.specs.declared.state.Instruction.{Instruction}
+use Rattle.reader.specs.declared.state.State.{State}
+use Rattle.reader.specs.State.{queueOf, positionOf, countOf, registerPlace}
+use Rattle.reader.specs.Queue.{poppedOf}
+use Rattle.reader.specs.Drain.{oldestOf, drainedOf}
+use Rattle.reader.specs.Rules.{itemFits}
+use Rattle.machine.specs.declared.effect.Effect.{Effect}
+use Rattle.machine.specs.Action.{currentOf, nextOf}
+use Rattle.machine.specs.Buffer.{afterOf}
+use Rattle.machine.specs.Effect.{cellOf, guard, blockedOf, tookOf}
+use Rattle.machine.specs.Run.{refusedOf, takenOf, unless}
+use Rattle.machine.specs.Step.{nextEffect, drainStep}
+use Rattle.machine.proofs.Take.{drain-row, take-row, room}
+use Rattle.machine.proofs.Runs.{Going}
+use Rattle.discipline.specs.declared.table.Held.{Held}
+use Rattle.discipline.specs.declared.decide.Decision.{Decision}
+use Rattle.discipline.specs.Table.{holdingOf}
+use Rattle.discipline.specs.Run.{Runnable}
+use Rattle.discipline.specs.Step.{nextMarks, checkedTake, checkedOf}
+use Rattle.discipline.specs.Decide.{decidedOf}
+use Rattle.discipline.proofs.Decided.{decided-same, unblocked}
+use Rattle.discipline.proofs.Sound.{drained-sound, took-sound}
+
+-- what holds of every state of a run that began in m₀
+pub record Good (m₀ s : State) : Type 0 where
+  pub runnable : Runnable s
+  pub threads : s .threads ≡ m₀ .threads
+
+-- a drain item
+module _ (s : State) {x t : ℕ} (h : 17 ≤ x) (e : t ≡ x - 17) where
+  pub empty-drain : queueOf s t .count ≡ 0 → refusedOf s 23 ≡ checkedOf s x
+  unfolding checkedOf drainStep guard unless
+  empty-drain z = rw (le-leb 17 x h, ← e, eq-eqb _ 0 z)
+
+  pub taken-drain : (queueOf s t .count ≡ 0 → ⊥) → takenOf (drainedOf s t) (pos 0) ≡ checkedOf s x
+  unfolding checkedOf drainStep guard unless
+  taken-drain n = rw (le-leb 17 x h, ← e, ne-eqb _ 0 n)
+
+-- an item of a thread's next instruction
+pub take-item : (s : State) {x t : ℕ} → x < 17 → t ≡ x - 1 → checkedTake s t ≡ checkedOf s x
+unfolding checkedOf
+take-item s {x} h e = rw (lt-leb 17 x h, e)
+
+module _ {m₀ s : State} (g : Good m₀ s) where
+  module _ {x t : ℕ} (f : itemFits (m₀ .threads) x ≡ true) where
+    pub drain-there : 17 ≤ x → t ≡ x - 17 → t < s .threads
+    drain-there h e = let r = g .runnable .inRange .threads in let k = drain-row (s .threads) x (rw (g .threads) f) h r in omega arith
+
+    pub take-there : x < 17 → (1 ≤ x) × (t ≡ x - 1 → t < s .threads)
+    take-there h = let k = take-row (s .threads) x (rw (g .threads) f) h in (k .0, λ e. omega (arith, k .1))
+
+  module _ {t : ℕ} (l : t < s .threads) where
+    pub good-drained : (queueOf s t .count ≡ 0 → ⊥) → Good m₀ (drainedOf s t)
+    unfolding drainedOf
+    good-drained n = record { runnable = drained-sound (g .runnable) l n; threads = g .threads }
+
+    module _ (p : positionOf s t < countOf s t) {i : Instruction} {d : Decision} (ei : i ≡ currentOf s t) (ed : d ≡ decidedOf (s .memory) (s .registers) (s .owners) (s .sharing) (s .dirty) (s .queues) (s .threads) (s .depth) t (positionOf s t) i) (z : d .number ≡ 0) where
+      pub good-took : Good m₀ (holdingOf (tookOf s t i (d .effect)) t i (d .held))
+      unfolding holdingOf tookOf
+      good-took = rw (decided-same s t p ei ed, ei) (record { runnable = took-sound (g .runnable) l p (unblocked s t p ei ed z); threads = g .threads })
+
+      pub good-room : d .effect .pushes ≡ true → queueOf s t .count < s .depth
+      good-room b = room _ (s .depth) (queueOf s t) (nextOf s t) (unblocked s t p ei ed z) (sym (ap (λ (x : Decision). x .effect .pushes) (decided-same s t p ei ed)) ∙ b)
+
+-- the stores of the code, one by one, make the state that was decided
+module _ {P : State → Type 0} {m₀ : State} {xs : List ℕ} {vs₀ : List ℤ} {n : ℕ} (s : State) (t : ℕ) (k : ℕ) (vs : List ℤ) where
+  pub drained-placed : {word : ℤ} {row : Queue} → word ≡ oldestOf s t .value → row ≡ poppedOf (queueOf s t) → Going checkedOf P m₀ xs vs₀ (drainedOf s t) n (set vs k (pos 0)) → Going checkedOf P m₀ xs vs₀ (record { threads = s .threads; cells = s .cells; depth = s .depth; positions = s .positions; counts = s .counts; queues = set (s .queues) t row; code = s .code; registers = s .registers; memory = set (s .memory) (oldestOf s t .cell) word; dirty = s .dirty; owners = s .owners; sharing = s .sharing }) n (set vs k (pos 0))
+  unfolding drainedOf
+  drained-placed ew er f = rw (ew, er) f
+
+  pub took-placed : (i : Instruction) (e : Effect) (h : Held) {c r : ℕ} {word content pushed value : ℤ} {row : Queue} → c ≡ cellOf i → r ≡ registerPlace t (i .register) → word ≡ e .word → content ≡ e .content → value ≡ e .value → pushed ≡ e .pushed → row ≡ afterOf (queueOf s t) (e .pushes) (record { value = pushed; cell = i .cell }) → Going checkedOf P m₀ xs vs₀ (holdingOf (tookOf s t i e) t i h) n (set vs k (e .value)) → Going checkedOf P m₀ xs vs₀ (record { threads = s .threads; cells = s .cells; depth = s .depth; positions = set (s .positions) t (e .next); counts = s .counts; queues = set (s .queues) t row; code = s .code; registers = set (s .registers) r content; memory = set (s .memory) c word; dirty = set (s .dirty) t (h .dirty); owners = set (s .owners) c (h .owner); sharing = set (s .sharing) c (h .sharing) }) n (set vs k value)
+  unfolding holdingOf tookOf
+  took-placed i e h ec er ew et ev ep eq f = rw (ec, er, ew, et, ev, eq, ep) f

@@ -1,0 +1,114 @@
+-- Each arm by its number, the last by being none of the ten.
+use Rattle.machine.specs.Action.{actionOf}
+use Rattle.discipline.specs.Rules.{brokenOf}
+use Rattle.machine.proofs.Ten.{NoneOfTen, unknown-end}
+use borrow.Author.Needs.{needs}
+use Rattle.discipline.proofs.rules.broken.Statement.{statement}
+use Rattle.discipline.proofs.rules.broken.Tie as tie
+
+load-requires : tie.Need-load-requires
+load-requires c κs = search needs
+
+store-requires : tie.Need-store-requires
+store-requires c κs = search needs
+
+store-requires-2 : tie.Need-store-requires-2
+store-requires-2 c κs = search needs
+
+store-requires-3 : tie.Need-store-requires-3
+store-requires-3 c κs = search needs
+
+cast-acquire : tie.Need-cast-acquire
+cast-acquire c = search needs
+
+acquire-requires : tie.Need-acquire-requires
+acquire-requires c κs = search needs
+
+cast-acquire-2 : tie.Need-cast-acquire-2
+cast-acquire-2 c = search needs
+
+acquire-requires-2 : tie.Need-acquire-requires-2
+acquire-requires-2 c κs = search needs
+
+mul-release : tie.Need-mul-release
+mul-release c = search needs
+
+array-copy-out-release : tie.Need-array-copy-out-release
+array-copy-out-release c = search needs
+
+release-requires : tie.Need-release-requires
+release-requires c κs = search needs
+
+returns : tie.Need-returns
+unfolding actionOf brokenOf
+returns c = rw (c .before .match .keys1) (c .load .ensures)
+
+returns-2 : tie.Need-returns-2
+unfolding actionOf brokenOf
+returns-2 c = rw (c .before .match .keys2) (c .store .ensures)
+
+returns-3 : tie.Need-returns-3
+unfolding actionOf brokenOf
+returns-3 c = rw (c .before .match .keys3) (c .store2 .ensures)
+
+returns-4 : tie.Need-returns-4
+unfolding actionOf brokenOf
+returns-4 c = rw (c .match .keys4)
+
+returns-5 : tie.Need-returns-5
+unfolding actionOf brokenOf
+returns-5 c = rw (c .before .match .keys5) (c .store3 .ensures)
+
+returns-6 : tie.Need-returns-6
+unfolding actionOf brokenOf
+returns-6 c = rw (c .before .before .match .keys6) (c .acquire .ensures)
+
+returns-7 : tie.Need-returns-7
+unfolding actionOf brokenOf
+returns-7 c = rw (c .before .before .match .keys7) (c .acquire2 .ensures)
+
+returns-8 : tie.Need-returns-8
+unfolding actionOf brokenOf
+returns-8 c = rw (c .before .before .match .keys8) (c .release .ensures)
+
+returns-9 : tie.Need-returns-9
+unfolding actionOf brokenOf
+returns-9 c = rw (c .match .keys9)
+
+returns-10 : tie.Need-returns-10
+unfolding actionOf brokenOf
+returns-10 c = rw (c .match .keys10)
+
+returns-11 : tie.Need-returns-11
+unfolding brokenOf
+returns-11 c =
+    let a = c .before .args in
+    let r = c .match .rest in
+    rw (unknown-end (a .i) _ _ (record { n1 = r .0 .0 .0 .0 .0 .0 .0 .0 .0 .1; n2 = r .0 .0 .0 .0 .0 .0 .0 .0 .1; n3 = r .0 .0 .0 .0 .0 .0 .0 .1; n4 = r .0 .0 .0 .0 .0 .0 .1; n5 = r .0 .0 .0 .0 .0 .1; n6 = r .0 .0 .0 .0 .1; n7 = r .0 .0 .0 .1; n8 = r .0 .0 .1; n9 = r .0 .1; n10 = r .1 }))
+
+pub broken-spec : {M : Type 1} → statement M
+broken-spec =
+    tie.close
+    (tie.spec
+    load-requires
+    store-requires
+    store-requires-2
+    store-requires-3
+    cast-acquire
+    acquire-requires
+    cast-acquire-2
+    acquire-requires-2
+    mul-release
+    array-copy-out-release
+    release-requires
+    returns
+    returns-2
+    returns-3
+    returns-4
+    returns-5
+    returns-6
+    returns-7
+    returns-8
+    returns-9
+    returns-10
+    returns-11)

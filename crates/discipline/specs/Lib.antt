@@ -1,0 +1,11 @@
+pub mod Table
+pub mod Elsewhere
+pub mod Rules
+pub mod Marks
+pub mod Step
+pub mod Decide
+pub mod Run
+pub mod Check
+pub mod Meaning
+pub mod Fence
+pub mod Runs

@@ -1,0 +1,106 @@
+// The run of a schedule: stores in place, so that an item costs what it changes and not the whole state.
+ghost use mathlib.Core.Path.{_≡_};
+ghost use Prim.Native.Nat.{_≤_};
+ghost use lib.ListN.{length};
+ghost use Rattle.machine.specs.Run.{Answers};
+ghost use Rattle.discipline.specs.Step.{checkedOf};
+ghost use Rattle.discipline.specs.Run.{Items, Runnable};
+use crate::decide;
+use machine::buffer;
+use machine::effect;
+use machine::outcome::Ran;
+use reader::bytes;
+use reader::state::Pending;
+use reader::state::State;
+
+// Every item is taken in turn until one is not. The k-th value is what the k-th item read, or 0.
+pub fn ran(m: State, items: &[u8], values: &mut [i32]) -> Ran
+    requires { ⌜ Runnable m × (Items (m .threads) (now items) × (length (now items) ≤ length (now values))) ⌝ }
+    ensures { λ r. ⌜ Answers checkedOf m (now (items .entry)) (now (values .entry)) r (now (values .exit)) ⌝ }
+{
+    let mut s = m;
+    let mut k = 0;
+    while k < items.len() {
+        let item = items[k];
+        if 17 <= item {
+            let t = bytes::wide(item - 17);
+            let q = s.queues[t];
+            if q.count == 0 {
+                return Ran {
+                    state: s,
+                    place: k,
+                    number: 23,
+                };
+            }
+            let oldest = q.entries[0];
+            let c = oldest.cell as usize;
+            let word = oldest.value;
+            let row = q.popped();
+            s.memory[c] = word;
+            s.queues[t] = row;
+            values[k] = 0;
+            k += 1;
+            continue;
+        }
+        let t = bytes::wide(item - 1);
+        let at = s.positions[t];
+        let end = s.counts[t];
+        if end <= at {
+            return Ran {
+                state: s,
+                place: k,
+                number: 20,
+            };
+        }
+        let p = effect::code_place(t, at);
+        let i = s.code[p];
+        let queues = s.queues;
+        let d = decide::decided(
+            &s.memory,
+            &s.registers,
+            &s.owners,
+            &s.sharing,
+            &s.dirty,
+            queues,
+            s.threads,
+            s.depth,
+            t,
+            at,
+            i,
+        );
+        if d.number != 0 {
+            return Ran {
+                state: s,
+                place: k,
+                number: d.number,
+            };
+        }
+        let e = d.effect;
+        let h = d.held;
+        let c = effect::cell_of(i);
+        let r = effect::register_place(t, i);
+        let pending = Pending {
+            value: e.pushed,
+            cell: i.cell as u32,
+        };
+        let q = s.queues[t];
+        let row = buffer::after(q, e.pushes, pending);
+        let word = e.word;
+        let content = e.content;
+        let value = e.value;
+        s.queues[t] = row;
+        s.memory[c] = word;
+        s.registers[r] = content;
+        s.positions[t] = e.next;
+        s.dirty[t] = h.dirty;
+        s.owners[c] = h.owner;
+        s.sharing[c] = h.sharing;
+        values[k] = value;
+        k += 1;
+    }
+    Ran {
+        state: s,
+        place: k,
+        number: 0,
+    }
+}
