@@ -19,10 +19,9 @@ use Rattle.machine.specs.Effect.{guard, pends, blockedOf}
 use Rattle.machine.specs.Run.{refusedOf, takenOf, unless, runOf}
 use Rattle.machine.specs.Step.{takeStep, drainStep}
 use Rattle.discipline.specs.Table.{owned, owns, others, isLocal, isDirty}
-use Rattle.discipline.specs.Elsewhere.{elsewhereOf}
 use Rattle.discipline.specs.Rules.{loadBreaks, storeBreaks, acquireBreaks, releaseBreaks, brokenOf}
 use Rattle.discipline.specs.Decide.{judgedOf}
-use Rattle.discipline.specs.Step.{nextHeld, nextBroken, checkedTake, checkedOf}
+use Rattle.discipline.specs.Step.{nextHeld, nextElsewhere, nextBroken, checkedTake, checkedOf}
 use Rattle.discipline.specs.Meaning.{Against, at-end, fence-waits, swap-waits, buffer-full, load-local, load-dirty, store-others, swap-others, acquire-owned, acquire-pending, release-others, release-waits, Stops, stops-take, stops-drain, Least, Taken, none, more}
 
 -- a number and what it says of a relation: the smallest that stands, or 0 and none does
@@ -73,7 +72,7 @@ split-and false b e = absurd (false-true e)
 
 module _ (s : State) (t : ℕ) where
   abbrev pub judgedAs : Action → ℕ
-  judgedAs a = judgedOf (blockedOf (s .depth) (queueOf s t) a) (brokenOf t (nextHeld s t) (s .queues) (s .threads) a)
+  judgedAs a = judgedOf (blockedOf (s .depth) (queueOf s t) a) (brokenOf t (nextHeld s t) (queueOf s t) (nextElsewhere s t) a)
 
   read-cases : {c : ℕ} (m : ℕ) → Against s t (read c) m → Either (not (owns (nextHeld s t) t) && isLocal (nextHeld s t)) (not (owns (nextHeld s t) t) && isDirty (nextHeld s t)) 30 31 m
   read-cases m (load-local o l) = first (rw (o, l)) refl
@@ -90,7 +89,7 @@ module _ (s : State) (t : ℕ) where
   swap-cases m (swap-waits h) = first h refl
   swap-cases m (swap-others h) = second h refl
 
-  acquire-cases : {c mark : ℕ} (m : ℕ) → Against s t (acquire c mark) m → Either (owned (nextHeld s t)) (elsewhereOf (s .queues) (s .threads) t c) 33 34 m
+  acquire-cases : {c mark : ℕ} (m : ℕ) → Against s t (acquire c mark) m → Either (owned (nextHeld s t)) (nextElsewhere s t) 33 34 m
   acquire-cases m (acquire-owned h) = first h refl
   acquire-cases m (acquire-pending h) = second h refl
 

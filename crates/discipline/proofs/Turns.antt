@@ -29,7 +29,7 @@ use Rattle.discipline.specs.Table.{holdingOf}
 use Rattle.discipline.specs.Run.{Runnable}
 use Rattle.discipline.specs.Step.{nextMarks, checkedTake, checkedOf}
 use Rattle.discipline.specs.Decide.{decidedOf}
-use Rattle.discipline.proofs.Decided.{decided-same, unblocked}
+use Rattle.discipline.proofs.Decided.{Searched, decided-same, unblocked}
 use Rattle.discipline.proofs.Sound.{drained-sound, took-sound}
 
 -- what holds of every state of a run that began in m₀
@@ -65,13 +65,13 @@ module _ {m₀ s : State} (g : Good m₀ s) where
     unfolding drainedOf
     good-drained n = record { runnable = drained-sound (g .runnable) l n; threads = g .threads }
 
-    module _ (p : positionOf s t < countOf s t) {i : Instruction} {d : Decision} (ei : i ≡ currentOf s t) (ed : d ≡ decidedOf (s .memory) (s .registers) (s .owners) (s .sharing) (s .dirty) (s .queues) (s .threads) (s .depth) t (positionOf s t) i) (z : d .number ≡ 0) where
+    module _ (p : positionOf s t < countOf s t) {i : Instruction} {b : Bool} {d : Decision} (ei : i ≡ currentOf s t) (eb : Searched s t i b) (ed : d ≡ decidedOf (s .memory) (s .registers) (s .owners) (s .sharing) (s .dirty) (queueOf s t) b (s .depth) t (positionOf s t) i) (z : d .number ≡ 0) where
       pub good-took : Good m₀ (holdingOf (tookOf s t i (d .effect)) t i (d .held))
       unfolding holdingOf tookOf
-      good-took = rw (decided-same s t p ei ed, ei) (record { runnable = took-sound (g .runnable) l p (unblocked s t p ei ed z); threads = g .threads })
+      good-took = rw (decided-same (g .runnable .inRange) l p ei eb ed, ei) (record { runnable = took-sound (g .runnable) l p (unblocked (g .runnable .inRange) l p ei eb ed z); threads = g .threads })
 
       pub good-room : d .effect .pushes ≡ true → queueOf s t .count < s .depth
-      good-room b = room _ (s .depth) (queueOf s t) (nextOf s t) (unblocked s t p ei ed z) (sym (ap (λ (x : Decision). x .effect .pushes) (decided-same s t p ei ed)) ∙ b)
+      good-room w = room _ (s .depth) (queueOf s t) (nextOf s t) (unblocked (g .runnable .inRange) l p ei eb ed z) (sym (ap (λ (x : Decision). x .effect .pushes) (decided-same (g .runnable .inRange) l p ei eb ed)) ∙ w)
 
 -- the stores of the code, one by one, make the state that was decided
 module _ {P : State → Type 0} {m₀ : State} {xs : List ℕ} {vs₀ : List ℤ} {n : ℕ} (s : State) (t : ℕ) (k : ℕ) (vs : List ℤ) where

@@ -11,8 +11,7 @@ use Rattle.reader.specs.State.{queueOf}
 use Rattle.machine.specs.Action.{Action, read, store, fence, swap, acquire, release, silent, end, nextOf}
 use Rattle.machine.specs.Effect.{pends}
 use Rattle.discipline.specs.Table.{owned, owns, others, isLocal, isDirty}
-use Rattle.discipline.specs.Elsewhere.{elsewhereOf}
-use Rattle.discipline.specs.Step.{nextHeld, checkedOf}
+use Rattle.discipline.specs.Step.{nextHeld, nextElsewhere, checkedOf}
 
 -- the reasons against an action of row t
 module _ (s : State) (t : ℕ) where
@@ -34,7 +33,7 @@ module _ (s : State) (t : ℕ) where
     -- "ACQUIRE of an owned cell, one's own too"
     acquire-owned : {c mark : ℕ} → owned (nextHeld s t) ≡ true → Against (acquire c mark) 33
     -- "ACQUIRE with a store to it pending elsewhere"
-    acquire-pending : {c mark : ℕ} → elsewhereOf (s .queues) (s .threads) t c ≡ true → Against (acquire c mark) 34
+    acquire-pending : {c mark : ℕ} → nextElsewhere s t ≡ true → Against (acquire c mark) 34
     -- "RELEASE of a cell not one's own"
     release-others : {c : ℕ} → owns (nextHeld s t) t ≡ false → Against (release c) 35
     -- "RELEASE with pending stores"

@@ -1,15 +1,11 @@
 -- The discipline: which rule an action breaks. "a smaller number before a larger one"
 use Prim.Native.Nat.{ℕ}
-use mathlib.Core.Bool.{_&&_, not}
-use mathlib.Core.List.{List}
-use lib.ListN.{getD}
+use mathlib.Core.Bool.{Bool, _&&_, not}
 use Rattle.reader.specs.declared.state.Queue.{Queue}
-use Rattle.reader.specs.State.{outsideQueue}
 use Rattle.machine.specs.Action.{Action, read, store, fence, swap, acquire, release, silent, end}
 use Rattle.machine.specs.Effect.{guard, pends}
 use Rattle.discipline.specs.declared.table.Held.{Held}
 use Rattle.discipline.specs.Table.{owned, owns, others, isLocal, isDirty}
-use Rattle.discipline.specs.Elsewhere.{elsewhereOf}
 
 -- an action of row t, of whose cell so much is held
 module _ (t : ℕ) (h : Held) where
@@ -22,20 +18,20 @@ module _ (t : ℕ) (h : Held) where
   storeBreaks = guard (others h t) 32 0
 
   -- "a cell with no owner and with no pending store in another thread's buffer"
-  unfoldable pub acquireBreaks : List Queue → ℕ → ℕ → ℕ
-  acquireBreaks qs threads c = guard (owned h) 33 (guard (elsewhereOf qs threads t c) 34 0)
+  unfoldable pub acquireBreaks : Bool → ℕ
+  acquireBreaks elsewhere = guard (owned h) 33 (guard elsewhere 34 0)
 
   -- "an own cell, with the own buffer empty"
   unfoldable pub releaseBreaks : Queue → ℕ
   releaseBreaks q = guard (not (owns h t)) 35 (guard (pends q) 36 0)
 
-  -- among the buffers of so many threads
-  unfoldable pub brokenOf : List Queue → ℕ → Action → ℕ
-  brokenOf qs threads (read c) = loadBreaks
-  brokenOf qs threads (store c x) = storeBreaks
-  brokenOf qs threads fence = 0
-  brokenOf qs threads (swap c old x) = storeBreaks
-  brokenOf qs threads (acquire c mark) = acquireBreaks qs threads c
-  brokenOf qs threads (release c) = releaseBreaks (getD qs t outsideQueue)
-  brokenOf qs threads (silent n x) = 0
-  brokenOf qs threads end = 0
+  -- with buffer q; elsewhere says whether a store to the cell pends with another thread
+  unfoldable pub brokenOf : Queue → Bool → Action → ℕ
+  brokenOf q elsewhere (read c) = loadBreaks
+  brokenOf q elsewhere (store c x) = storeBreaks
+  brokenOf q elsewhere fence = 0
+  brokenOf q elsewhere (swap c old x) = storeBreaks
+  brokenOf q elsewhere (acquire c mark) = acquireBreaks elsewhere
+  brokenOf q elsewhere (release c) = releaseBreaks q
+  brokenOf q elsewhere (silent n x) = 0
+  brokenOf q elsewhere end = 0

@@ -1,6 +1,6 @@
 // The decision about an instruction, before anything is stored: both layers judge small structs of what was looked at.
 ghost use mathlib.Core.Path.{_≡_};
-ghost use Rattle.discipline.specs.Decide.{Decidable, judgedOf, decidedOf};
+ghost use Rattle.discipline.specs.Decide.{Decidable, acquires, judgedOf, decidedOf};
 use crate::marks;
 use crate::rules;
 use crate::table;
@@ -28,27 +28,36 @@ fn judged(blocked: u32, broken: u32) -> u32
     blocked
 }
 
+// Whether the other threads' buffers have to be searched for the instruction's cell.
+pub fn is_acquire(i: Instruction) -> bool
+    ensures { λ r. ⌜ r ≡ acquires i ⌝ }
+{
+    if i.operation == 6 {
+        return true;
+    }
+    i.operation == 7
+}
+
 pub fn decided<'a>(
     memory: &'a [i32; State::CELLS],
     registers: &'a [i32; State::THREADS * State::REGISTERS],
     owners: &'a [u8; State::CELLS],
     sharing: &'a [u8; State::CELLS],
     dirty: &'a [u32; State::THREADS],
-    queues: [Queue; State::THREADS],
-    threads: usize,
+    q: Queue,
+    elsewhere: bool,
     depth: usize,
     t: usize,
     at: usize,
     i: Instruction,
 ) -> Decision
-    requires { ⌜ Decidable queues threads t at i ⌝ }
-    ensures { λ r. ⌜ r ≡ decidedOf (now (memory .entry)) (now (registers .entry)) (now (owners .entry)) (now (sharing .entry)) (now (dirty .entry)) queues threads depth t at i ⌝ }
+    requires { ⌜ Decidable q t at i ⌝ }
+    ensures { λ r. ⌜ r ≡ decidedOf (now (memory .entry)) (now (registers .entry)) (now (owners .entry)) (now (sharing .entry)) (now (dirty .entry)) q elsewhere depth t at i ⌝ }
 {
-    let q = queues[t];
     let v = effect::looked(memory, registers, t, at, i);
     let h = table::look(owners, sharing, dirty, t, i);
     let blocked = effect::blocked(depth, q, i, v);
-    let broken = rules::broken(t, h, queues, threads, i, v);
+    let broken = rules::broken(t, h, q, elsewhere, i, v);
     let e = effect::change(v, q, i);
     let held = marks::marked(h, t, i, v);
     let number = judged(blocked, broken);

@@ -1,18 +1,14 @@
 // The rules, each one named test. An instruction is judged by them only where the machine does not hold it back.
 ghost use mathlib.Core.Path.{_≡_};
 ghost use Prim.Native.Nat.{_<_};
-ghost use lib.IntN.{ℤ};
 ghost use Rattle.reader.specs.Limits.{THREADS};
 ghost use Rattle.machine.specs.Action.{actionOf};
-ghost use Rattle.discipline.specs.Elsewhere.{Rows};
 ghost use Rattle.discipline.specs.Rules.{loadBreaks, storeBreaks, acquireBreaks, releaseBreaks, brokenOf};
-use crate::elsewhere;
 use crate::table;
 use crate::table::Held;
 use machine::effect::Seen;
 use reader::state::Instruction;
 use reader::state::Queue;
-use reader::state::State;
 
 // 30: load of another's local cell. 31: load of a shared cell not one's own, dirty flag set.
 fn load(t: usize, h: Held) -> u32
@@ -43,14 +39,13 @@ fn store(t: usize, h: Held) -> u32
 }
 
 // 33: ACQUIRE of an owned cell, one's own too. 34: ACQUIRE with a store to it pending elsewhere.
-fn acquire(t: usize, h: Held, queues: [Queue; State::THREADS], threads: usize, cell: u32) -> u32
-    requires { ⌜ Rows queues threads ⌝ }
-    ensures { λ r. ⌜ r ≡ acquireBreaks t h queues threads cell ⌝ }
+fn acquire(t: usize, h: Held, elsewhere: bool) -> u32
+    ensures { λ r. ⌜ r ≡ acquireBreaks t h elsewhere ⌝ }
 {
     if h.owner != 0 {
         return 33;
     }
-    if elsewhere::is_elsewhere(queues, threads, t, cell) {
+    if elsewhere {
         return 34;
     }
     0
@@ -71,16 +66,9 @@ fn release(t: usize, h: Held, q: Queue) -> u32
 }
 
 // The number of the rule that an instruction of row t breaks, or 0.
-pub fn broken(
-    t: usize,
-    h: Held,
-    queues: [Queue; State::THREADS],
-    threads: usize,
-    i: Instruction,
-    v: Seen,
-) -> u32
-    requires { ⌜ (t < THREADS) × Rows queues threads ⌝ }
-    ensures { λ r. ⌜ r ≡ brokenOf t h queues threads (actionOf i (v .at) (v .content)) ⌝ }
+pub fn broken(t: usize, h: Held, q: Queue, elsewhere: bool, i: Instruction, v: Seen) -> u32
+    requires { ⌜ t < THREADS ⌝ }
+    ensures { λ r. ⌜ r ≡ brokenOf t h q elsewhere (actionOf i (v .at) (v .content)) ⌝ }
 {
     let operation = i.operation;
     match operation {
@@ -89,9 +77,9 @@ pub fn broken(
         3 => store(t, h),
         4 => 0,
         5 => store(t, h),
-        6 => acquire(t, h, queues, threads, i.cell as u32),
-        7 => acquire(t, h, queues, threads, i.cell as u32),
-        8 => release(t, h, queues[t]),
+        6 => acquire(t, h, elsewhere),
+        7 => acquire(t, h, elsewhere),
+        8 => release(t, h, q),
         9 => 0,
         10 => 0,
         _ => 0,

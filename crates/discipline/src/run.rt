@@ -6,6 +6,7 @@ ghost use Rattle.machine.specs.Run.{Answers};
 ghost use Rattle.discipline.specs.Step.{checkedOf};
 ghost use Rattle.discipline.specs.Run.{Items, Runnable};
 use crate::decide;
+use crate::elsewhere;
 use machine::buffer;
 use machine::effect;
 use machine::outcome::Ran;
@@ -54,15 +55,20 @@ pub fn ran(m: State, items: &[u8], values: &mut [i32]) -> Ran
         }
         let p = effect::code_place(t, at);
         let i = s.code[p];
-        let queues = s.queues;
+        let q = s.queues[t];
+        let mut elsewhere = false;
+        if decide::is_acquire(i) {
+            let queues = s.queues;
+            elsewhere = elsewhere::is_elsewhere(queues, s.threads, t, i.cell as u32);
+        }
         let d = decide::decided(
             &s.memory,
             &s.registers,
             &s.owners,
             &s.sharing,
             &s.dirty,
-            queues,
-            s.threads,
+            q,
+            elsewhere,
             s.depth,
             t,
             at,
@@ -83,7 +89,6 @@ pub fn ran(m: State, items: &[u8], values: &mut [i32]) -> Ran
             value: e.pushed,
             cell: i.cell as u32,
         };
-        let q = s.queues[t];
         let row = buffer::after(q, e.pushes, pending);
         let word = e.word;
         let content = e.content;

@@ -6,12 +6,6 @@ use borrow.Author.Needs.{needs}
 use Rattle.discipline.proofs.decide.decided.Statement.{statement}
 use Rattle.discipline.proofs.decide.decided.Tie as tie
 
-mul-q : tie.Need-mul-q
-mul-q c = search needs
-
-array-copy-out-q : tie.Need-array-copy-out-q
-array-copy-out-q c = search needs
-
 looked-requires : tie.Need-looked-requires
 looked-requires c κs = search needs
 
@@ -26,10 +20,10 @@ broken-requires c κs = search needs
 
 change-requires : tie.Need-change-requires
 change-requires c κs =
-    let s = c .before .before .before .before .before in
+    let s = c .before .before .before .before in
     let e = looked-at _ _ _ _ _ (c .before .before .before .looked .ensures) in
     let p = s .pre .position in
-    (omega arith, s .pre .rows .few _ (s .pre .thread))
+    (omega arith, s .pre .few)
 
 marked-requires : tie.Need-marked-requires
 marked-requires c κs = search needs
@@ -45,8 +39,6 @@ pub decided-spec : {M : Type 1} → statement M
 decided-spec =
     tie.close
     (tie.spec
-    mul-q
-    array-copy-out-q
     looked-requires
     look-requires
     blocked-requires

@@ -18,23 +18,11 @@ store-requires-2 c κs = search needs
 store-requires-3 : tie.Need-store-requires-3
 store-requires-3 c κs = search needs
 
-cast-acquire : tie.Need-cast-acquire
-cast-acquire c = search needs
-
 acquire-requires : tie.Need-acquire-requires
 acquire-requires c κs = search needs
 
-cast-acquire-2 : tie.Need-cast-acquire-2
-cast-acquire-2 c = search needs
-
 acquire-requires-2 : tie.Need-acquire-requires-2
 acquire-requires-2 c κs = search needs
-
-mul-release : tie.Need-mul-release
-mul-release c = search needs
-
-array-copy-out-release : tie.Need-array-copy-out-release
-array-copy-out-release c = search needs
 
 release-requires : tie.Need-release-requires
 release-requires c κs = search needs
@@ -61,15 +49,15 @@ returns-5 c = rw (c .before .match .keys5) (c .store3 .ensures)
 
 returns-6 : tie.Need-returns-6
 unfolding actionOf brokenOf
-returns-6 c = rw (c .before .before .match .keys6) (c .acquire .ensures)
+returns-6 c = rw (c .before .match .keys6) (c .acquire .ensures)
 
 returns-7 : tie.Need-returns-7
 unfolding actionOf brokenOf
-returns-7 c = rw (c .before .before .match .keys7) (c .acquire2 .ensures)
+returns-7 c = rw (c .before .match .keys7) (c .acquire2 .ensures)
 
 returns-8 : tie.Need-returns-8
 unfolding actionOf brokenOf
-returns-8 c = rw (c .before .before .match .keys8) (c .release .ensures)
+returns-8 c = rw (c .before .match .keys8) (c .release .ensures)
 
 returns-9 : tie.Need-returns-9
 unfolding actionOf brokenOf
@@ -94,12 +82,8 @@ broken-spec =
     store-requires
     store-requires-2
     store-requires-3
-    cast-acquire
     acquire-requires
-    cast-acquire-2
     acquire-requires-2
-    mul-release
-    array-copy-out-release
     release-requires
     returns
     returns-2
