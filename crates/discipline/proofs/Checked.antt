@@ -1,22 +1,22 @@
 -- The check of a whole case: each way out of the code is what the definition says.
 use Prim.Native.Nat.{ℕ, _+_, _-_, _<_, _≤_}
-use mathlib.Core.Bool.{Bool, true, false, _||_}
-use mathlib.Core.Path.{_≡_, refl, sym, ap, _∙_}
+use mathlib.Core.Bool.{true, false}
+use mathlib.Core.Path.{_≡_, ap, _∙_}
 use mathlib.Core.List.{List, _++_}
 use native.Mathlib.Omega.{arith}
-use lib.ListN.{length, getD, take, drop, length-drop}
+use lib.ListN.{length, take, drop, length-drop}
 use lib.Seq.{take-all, getD-drop}
-use lib.Dec.{eqb, ltb}
+use lib.Dec.{eqb}
 use lib.IntN.{ℤ}
 use borrow.Author.Tests.{eq-eqb, ne-eqb, lt-ltb, le-ltb}
 use Rattle.reader.specs.declared.Reading.{Reading}
 use Rattle.reader.specs.Bytes.{byte}
-use Rattle.reader.specs.Rules.{pick, itemFits}
+use Rattle.reader.specs.Rules.{pick}
 use Rattle.reader.specs.Case.{readOf}
 use Rattle.reader.specs.Range.{WellFormed}
 use Rattle.reader.proofs.Accepted.{accepted}
 use Rattle.machine.specs.declared.outcome.Ran.{Ran}
-use Rattle.machine.specs.Run.{runOf, Answers}
+use Rattle.machine.specs.Run.{Answers}
 use Rattle.machine.proofs.Runs.{ran-within}
 use Rattle.discipline.specs.declared.check.Answer.{Answer}
 use Rattle.discipline.specs.Run.{Runnable, Items}

@@ -8,7 +8,7 @@ use Rattle.reader.specs.declared.Reading.{Reading}
 use Rattle.reader.specs.Case.{readOf}
 use Rattle.machine.specs.declared.outcome.Outcome.{Outcome}
 use Rattle.machine.specs.declared.outcome.Ran.{Ran}
-use Rattle.machine.specs.Run.{valuesOf, Answers}
+use Rattle.machine.specs.Run.{Answers}
 use Rattle.discipline.specs.declared.check.Answer.{Answer}
 use Rattle.discipline.specs.Check.{Checks}
 

@@ -4,18 +4,14 @@ use mathlib.Core.Bool.{Bool, true, false, _||_}
 use mathlib.Core.Path.{_≡_, refl, sym, ap, _∙_}
 use native.Mathlib.Omega.{arith}
 use lib.Dec.{eqb}
-use borrow.Author.Tests.{eq-eqb, ne-eqb, eqb-true, eqb-false}
+use borrow.Author.Tests.{ne-eqb, eqb-true}
 use Rattle.reader.specs.declared.state.Instruction.{Instruction}
 use Rattle.reader.specs.declared.state.State.{State}
-use Rattle.reader.specs.Limits.{DEPTH}
 use Rattle.reader.specs.State.{queueOf, positionOf, countOf}
 use Rattle.reader.specs.Rules.{pick}
 use Rattle.reader.specs.Range.{InRange}
-use Rattle.machine.specs.declared.effect.Effect.{Effect}
-use Rattle.machine.specs.declared.outcome.Outcome.{Outcome}
 use Rattle.machine.specs.Action.{Action, actionOf, currentOf, nextOf}
-use Rattle.machine.specs.Effect.{blockedOf, effectOf, tookOf}
-use Rattle.machine.specs.Look.{lookedOf}
+use Rattle.machine.specs.Effect.{blockedOf, tookOf}
 use Rattle.machine.specs.Run.{refusedOf, takenOf, unless}
 use Rattle.machine.specs.Step.{nextEffect, takeStep}
 use Rattle.machine.proofs.Take.{unless-zero, unless-not, row-few, position-below, current-in, current-lookable, next-action, seen-same, end-step}
@@ -27,7 +23,7 @@ use Rattle.reader.specs.declared.state.Queue.{Queue}
 use lib.IntN.{ℤ}
 use Rattle.discipline.specs.declared.table.Held.{Held}
 use Rattle.discipline.specs.declared.decide.Decision.{Decision}
-use Rattle.discipline.specs.Table.{heldOf, holdingOf}
+use Rattle.discipline.specs.Table.{holdingOf}
 use Rattle.discipline.specs.Elsewhere.{elsewhereOf, Rows}
 use Rattle.discipline.specs.Rules.{brokenOf}
 use Rattle.discipline.specs.Step.{nextHeld, nextBroken, nextMarks, checkedTake}

@@ -1,7 +1,7 @@
 -- A number is given for the smallest reason that stands against an item, and none is given where no reason stands.
 use Prim.Native.Nat.{ℕ, zero, suc, _+_, _-_, _≤_, _<_}
 use mathlib.Core.Bool.{Bool, true, false, not, _&&_}
-use mathlib.Core.Path.{_≡_, refl, sym, ap, subst, _∙_}
+use mathlib.Core.Path.{_≡_, refl, ap, _∙_}
 use mathlib.Core.List.{List, [], _∷_}
 use native.Mathlib.Omega.{arith}
 use lib.ListN.{length, take, getD}
@@ -9,14 +9,14 @@ use lib.Dec.{eqb, leb}
 use lib.IntN.{ℤ}
 use Rattle.machine.specs.declared.outcome.Outcome.{Outcome}
 use Rattle.machine.specs.declared.outcome.Ran.{Ran}
-use borrow.Author.Tests.{not-true, eqb-true, eqb-false, leb-true, leb-false, eq-eqb, ne-eqb, le-leb, lt-leb}
+use borrow.Author.Tests.{not-true, eqb-true, eqb-false, leb-true, leb-false, eq-eqb, ne-eqb}
 use Rattle.reader.specs.declared.state.State.{State}
 use Rattle.reader.specs.State.{queueOf}
 use Rattle.reader.specs.Rules.{pick}
 use Rattle.reader.proofs.Tests.{false-true}
-use Rattle.machine.specs.Action.{Action, read, store, fence, swap, acquire, release, silent, end, currentOf, nextOf}
+use Rattle.machine.specs.Action.{Action, read, store, fence, swap, acquire, release, silent, end, nextOf}
 use Rattle.machine.specs.Effect.{guard, pends, blockedOf}
-use Rattle.machine.specs.Run.{refusedOf, takenOf, unless, runOf}
+use Rattle.machine.specs.Run.{unless, runOf}
 use Rattle.machine.specs.Step.{takeStep, drainStep}
 use Rattle.discipline.specs.Table.{owned, owns, others, isLocal, isDirty}
 use Rattle.discipline.specs.Rules.{loadBreaks, storeBreaks, acquireBreaks, releaseBreaks, brokenOf}

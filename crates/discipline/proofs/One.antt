@@ -1,10 +1,10 @@
 -- A run of one item is a step of it.
-use Prim.Native.Nat.{ℕ, zero, suc, _<_}
+use Prim.Native.Nat.{ℕ, zero, suc}
 use mathlib.Core.Bool.{Bool, true, false}
-use mathlib.Core.Path.{_≡_, refl, sym, ap, _∙_}
+use mathlib.Core.Path.{_≡_, refl, sym}
 use mathlib.Core.List.{List, [], _∷_, _++_}
 use native.Mathlib.Omega.{arith}
-use lib.ListN.{length, getD, drop}
+use lib.ListN.{getD, drop}
 use lib.Dec.{eqb, leb}
 use lib.IntN.{ℤ, pos}
 use borrow.Author.Tests.{eqb-true, eqb-false}
@@ -13,7 +13,7 @@ use Rattle.reader.specs.Rules.{pick, itemFits}
 use Rattle.machine.specs.declared.outcome.Outcome.{Outcome}
 use Rattle.machine.specs.declared.outcome.Ran.{Ran}
 use Rattle.machine.specs.Run.{refusedOf, takenOf, unless, runOf, valuesOf, Answers}
-use Rattle.machine.specs.Step.{takeStep, drainStep}
+use Rattle.machine.specs.Step.{drainStep}
 use Rattle.discipline.specs.Run.{Items}
 use Rattle.discipline.specs.Step.{checkedTake, checkedOf}
 

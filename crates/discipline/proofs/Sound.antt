@@ -1,20 +1,17 @@
 -- What a run keeps of its states: in range, every array as long as its type says.
-use Prim.Native.Nat.{ℕ, _+_, _<_, _≤_}
-use mathlib.Core.Bool.{Bool, true, false, _&&_}
-use mathlib.Core.Path.{_≡_, refl, sym, ap, _∙_}
+use Prim.Native.Nat.{ℕ, _<_, _≤_}
+use mathlib.Core.Bool.{_&&_}
+use mathlib.Core.Path.{_≡_, refl}
 use native.Mathlib.Omega.{arith}
 use native.Mathlib.Decide.{ℕ-discrete}
-use lib.ListN.{length, getD, set, length-set}
+use lib.ListN.{getD, set, length-set}
 use lib.Seq.{getD-set-same, getD-set-other}
-use lib.Dec.{eqb}
 use Rattle.reader.specs.declared.state.Instruction.{Instruction}
 use Rattle.reader.specs.declared.state.State.{State}
-use Rattle.reader.specs.Limits.{THREADS, CELLS, DEPTH}
-use Rattle.reader.specs.State.{queueOf, positionOf, countOf, ownerOf, sharingOf, registerOf}
+use Rattle.reader.specs.State.{queueOf, positionOf, countOf}
 use Rattle.reader.specs.Drain.{drainedOf}
 use Rattle.reader.specs.Rules.{pick}
-use Rattle.reader.specs.Range.{CellIn, InRange, Shaped}
-use Rattle.machine.specs.declared.effect.Effect.{Effect}
+use Rattle.reader.specs.Range.{CellIn}
 use Rattle.machine.specs.Action.{Action, actionOf, currentOf, nextOf}
 use Rattle.machine.specs.Effect.{cellOf, blockedOf, tookOf}
 use Rattle.machine.specs.Step.{nextEffect}

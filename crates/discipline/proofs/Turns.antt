@@ -1,11 +1,10 @@
 -- The turns of the run: what the code does at one item is the checked step of it, and the states stay runnable.
-use Prim.Native.Nat.{ℕ, _+_, _-_, _<_, _≤_}
-use mathlib.Core.Bool.{Bool, true, false}
-use mathlib.Core.Path.{_≡_, refl, sym, ap, _∙_}
+use Prim.Native.Nat.{ℕ, _-_, _<_, _≤_}
+use mathlib.Core.Bool.{Bool, true}
+use mathlib.Core.Path.{_≡_, sym, ap, _∙_}
 use mathlib.Core.List.{List}
 use native.Mathlib.Omega.{arith}
-use lib.ListN.{length, getD, set}
-use lib.Dec.{eqb, leb}
+use lib.ListN.{set}
 use lib.IntN.{ℤ, pos}
 use borrow.Author.Tests.{le-leb, lt-leb, eq-eqb, ne-eqb}
 use Rattle.reader.specs.declared.state.Queue.{Queue}
@@ -18,16 +17,16 @@ use Rattle.reader.specs.Rules.{itemFits}
 use Rattle.machine.specs.declared.effect.Effect.{Effect}
 use Rattle.machine.specs.Action.{currentOf, nextOf}
 use Rattle.machine.specs.Buffer.{afterOf}
-use Rattle.machine.specs.Effect.{cellOf, guard, blockedOf, tookOf}
+use Rattle.machine.specs.Effect.{cellOf, guard, tookOf}
 use Rattle.machine.specs.Run.{refusedOf, takenOf, unless}
-use Rattle.machine.specs.Step.{nextEffect, drainStep}
+use Rattle.machine.specs.Step.{drainStep}
 use Rattle.machine.proofs.Take.{drain-row, take-row, room}
 use Rattle.machine.proofs.Runs.{Going}
 use Rattle.discipline.specs.declared.table.Held.{Held}
 use Rattle.discipline.specs.declared.decide.Decision.{Decision}
 use Rattle.discipline.specs.Table.{holdingOf}
 use Rattle.discipline.specs.Run.{Runnable}
-use Rattle.discipline.specs.Step.{nextMarks, checkedTake, checkedOf}
+use Rattle.discipline.specs.Step.{checkedTake, checkedOf}
 use Rattle.discipline.specs.Decide.{decidedOf}
 use Rattle.discipline.proofs.Decided.{Searched, decided-same, unblocked}
 use Rattle.discipline.proofs.Sound.{drained-sound, took-sound}

@@ -4,11 +4,11 @@ use Prim.Native.Nat.{ℕ, _-_, _≤_, _<_}
 use mathlib.Core.Bool.{true, false}
 use mathlib.Core.Path.{_≡_}
 use mathlib.Core.List.{List, [], _∷_}
-use lib.Dec.{eqb, leb}
+use lib.Dec.{leb}
 use lib.IntN.{ℤ}
 use Rattle.reader.specs.declared.state.State.{State}
 use Rattle.reader.specs.State.{queueOf}
-use Rattle.machine.specs.Action.{Action, read, store, fence, swap, acquire, release, silent, end, nextOf}
+use Rattle.machine.specs.Action.{Action, read, store, fence, swap, acquire, release, end, nextOf}
 use Rattle.machine.specs.Effect.{pends}
 use Rattle.discipline.specs.Table.{owned, owns, others, isLocal, isDirty}
 use Rattle.discipline.specs.Step.{nextHeld, nextElsewhere, checkedOf}

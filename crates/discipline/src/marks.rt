@@ -1,6 +1,6 @@
 // What an instruction does to the dirty flag and to the ownership table.
 ghost use mathlib.Core.Path.{_≡_};
-ghost use Prim.Native.Nat.{_<_, _≤_};
+ghost use Prim.Native.Nat.{_<_};
 ghost use Rattle.reader.specs.Limits.{THREADS};
 ghost use Rattle.machine.specs.Action.{actionOf};
 ghost use Rattle.discipline.specs.Table.{acquired, released, flagged};

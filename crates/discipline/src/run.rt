@@ -1,5 +1,4 @@
 // The run of a schedule: stores in place, so that an item costs what it changes and not the whole state.
-ghost use mathlib.Core.Path.{_≡_};
 ghost use Prim.Native.Nat.{_≤_};
 ghost use lib.ListN.{length};
 ghost use Rattle.machine.specs.Run.{Answers};

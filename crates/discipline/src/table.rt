@@ -1,10 +1,9 @@
 // The ownership table and the dirty flag, as the rules look at them. Owner and sharing are read and changed nowhere else.
-ghost use mathlib.Core.Bool.{_&&_, not};
 ghost use mathlib.Core.Path.{_≡_};
 ghost use Prim.Native.Nat.{_+_, _<_};
 ghost use Rattle.reader.specs.Limits.{THREADS};
 ghost use Rattle.machine.specs.Look.{Lookable};
-ghost use Rattle.discipline.specs.Table.{heldOf, owns, others, isLocal, isDirty};
+ghost use Rattle.discipline.specs.Table.{heldOf, owns, others};
 use machine::effect;
 use reader::state::Instruction;
 use reader::state::State;

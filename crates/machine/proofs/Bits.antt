@@ -1,12 +1,12 @@
 -- Two's complement at 32 bits: the tests and complements of the code, and the sum modulo 2^32.
-use Prim.Native.Nat.{ℕ, zero, suc, _+_, _-_, _%_, _^_, _<_, _≤_}
+use Prim.Native.Nat.{ℕ, suc, _+_, _-_, _%_, _^_, _<_, _≤_}
 use mathlib.Core.Bool.{Bool, true, false}
-use mathlib.Core.Path.{_≡_, refl, sym, ap, subst, _∙_}
+use mathlib.Core.Path.{_≡_, refl, ap, subst}
 use native.Mathlib.Omega.{arith}
 use lib.Dec.{T, ltb}
 use native.Mathlib.Nat.{add-comm}
 use mathlib.Core.Bool.{cond}
-use lib.IntN.{ℤ, pos, negsuc, natAbs, _+ℤ_, subℕ}
+use lib.IntN.{ℤ, pos, negsuc, natAbs, _+ℤ_}
 use lib.Signed.{ltZ, nonNeg}
 use mir.Syntax.{w32}
 use mir.Val.{Fits, SFits, ofZ, toZ}

@@ -1,13 +1,10 @@
 -- What a step of one thread does to its own row, and that it leaves the rows of the others. Once over the thread number.
-use Prim.Native.Nat.{ℕ, _+_, _*_, _-_, _<_, _≤_}
+use Prim.Native.Nat.{ℕ, _-_, _<_, _≤_}
 use mathlib.Core.Path.{_≡_, refl}
-use mathlib.Core.List.{List}
 use native.Mathlib.Omega.{arith}
-use lib.ListN.{length, getD, set, drop}
+use lib.ListN.{drop}
 use lib.Seq.{getD-set-same, getD-set-other}
-use lib.IntN.{ℤ, pos}
-use Rattle.reader.specs.declared.state.Pending.{Pending}
-use Rattle.reader.specs.declared.state.Queue.{Queue}
+use lib.IntN.{pos}
 use Rattle.reader.specs.declared.state.Instruction.{Instruction}
 use Rattle.reader.specs.declared.state.State.{State}
 use Rattle.reader.specs.Limits.{THREADS, CELLS, REGISTERS, DEPTH}
@@ -18,7 +15,7 @@ use Rattle.reader.specs.Range.{Shaped}
 use Rattle.reader.proofs.Row.{pending-popped}
 use Rattle.machine.specs.declared.effect.Effect.{Effect}
 use Rattle.machine.specs.Buffer.{afterOf}
-use Rattle.machine.specs.Effect.{cellOf, tookOf}
+use Rattle.machine.specs.Effect.{tookOf}
 
 -- the rows of another thread
 module _ (s : State) (t u : ℕ) (ne : u ≡ t → ⊥) where

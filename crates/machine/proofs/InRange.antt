@@ -1,11 +1,10 @@
 -- In range is kept by every item, on both machines, and so are the sizes.
 use Prim.Native.Nat.{ℕ, zero, suc, _-_, _<_, _≤_}
 use mathlib.Core.Bool.{Bool, true, false}
-use mathlib.Core.Path.{_≡_, refl, sym, ap, subst, _∙_}
+use mathlib.Core.Path.{_≡_, refl, subst}
 use native.Mathlib.Omega.{arith}
 use lib.Dec.{eqb, ltb, leb}
-use lib.IntN.{pos}
-use borrow.Author.Tests.{eqb-false, ltb-true, ltb-false, leb-true, leb-false, lt-ltb}
+use borrow.Author.Tests.{ltb-true, ltb-false, leb-true, leb-false, lt-ltb}
 use Rattle.reader.specs.declared.state.State.{State}
 use Rattle.reader.specs.State.{noQueue, queueOf, positionOf, countOf, registerOf}
 use Rattle.reader.specs.Rules.{pick, itemFits}
@@ -13,10 +12,9 @@ use Rattle.reader.specs.Drain.{drainedOf}
 use Rattle.reader.specs.Range.{InRange}
 use Rattle.reader.proofs.Tests.{false-true}
 use Rattle.machine.specs.declared.outcome.Outcome.{Outcome}
-use Rattle.machine.specs.declared.effect.Effect.{Effect}
-use Rattle.machine.specs.Action.{actionOf, end, currentOf, nextOf}
+use Rattle.machine.specs.Action.{actionOf, currentOf, nextOf}
 use Rattle.machine.specs.Effect.{seenOf, guard, blockedOf, effectOf, tookOf}
-use Rattle.machine.specs.Run.{refusedOf, takenOf, unless}
+use Rattle.machine.specs.Run.{unless}
 use Rattle.machine.specs.Step.{nextEffect, takeStep, drainStep, stepOf}
 use Rattle.machine.specs.Plain.{atOnce, endedOf, plainEffect, plainStep}
 use Rattle.machine.proofs.Take.{current-in, end-step, drain-row, take-row, room}

@@ -1,24 +1,19 @@
 -- A step keeps a state in range, and every array as long as it was.
 use Prim.Native.Nat.{ℕ, zero, suc, _+_, _-_, _<_, _≤_}
 use mathlib.Core.Bool.{Bool, true, false}
-use mathlib.Core.Path.{_≡_, refl, sym, ap, _∙_}
+use mathlib.Core.Path.{_≡_, refl}
 use mathlib.Core.List.{List, [], _∷_, _++_}
 use native.Mathlib.Omega.{arith}
 use native.Mathlib.Numerals.{add-one}
-use lib.ListN.{length, take, drop, getD, set, length-set}
-use lib.Dec.{eqb}
-use lib.IntN.{ℤ}
+use lib.ListN.{take, drop, getD, set}
 use Rattle.reader.specs.declared.state.Pending.{Pending}
 use Rattle.reader.specs.declared.state.Queue.{Queue}
 use Rattle.reader.specs.declared.state.Instruction.{Instruction}
 use Rattle.reader.specs.declared.state.State.{State}
-use Rattle.reader.specs.Limits.{THREADS, DEPTH}
-use Rattle.reader.specs.State.{noPending, outsideQueue, queueOf, positionOf, countOf}
-use Rattle.reader.specs.Queue.{shifted, poppedOf, pushedOf}
+use Rattle.reader.specs.State.{noPending, outsideQueue, queueOf, countOf}
+use Rattle.reader.specs.Queue.{shifted, poppedOf}
 use Rattle.reader.specs.Drain.{drainedOf}
-use Rattle.reader.specs.Rules.{pick, BRANCH}
-use Rattle.reader.specs.Range.{QueueIn, InRange, Shaped}
-use Rattle.reader.proofs.Row.{length-popped, length-pushed}
+use Rattle.reader.specs.Range.{InRange}
 use Rattle.machine.specs.declared.effect.Effect.{Effect}
 use Rattle.machine.specs.Buffer.{afterOf}
 use Rattle.machine.specs.Effect.{tookOf}

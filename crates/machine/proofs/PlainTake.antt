@@ -1,6 +1,6 @@
 -- The next instruction of a thread on the one-memory machine, as the code carries it out.
 use Prim.Native.Nat.{ℕ, _≤_, _<_}
-use mathlib.Core.Bool.{Bool, true, false}
+use mathlib.Core.Bool.{true}
 use mathlib.Core.Path.{_≡_, refl, sym}
 use Rattle.reader.specs.declared.state.Queue.{Queue}
 use Rattle.reader.specs.declared.state.Instruction.{Instruction}

@@ -6,14 +6,13 @@ use mathlib.Core.Path.{_≡_, refl, sym, ap, _∙_}
 use mathlib.Core.List.{List}
 use native.Mathlib.Omega.{arith}
 use lib.Dec.{eqb, leb}
-use lib.ListN.{getD, set}
-use lib.IntN.{ℤ, pos}
+use lib.IntN.{ℤ}
 use borrow.Author.Tests.{eqb-false, leb-false, lt-ltb, le-ltb}
 use Rattle.reader.specs.declared.state.Queue.{Queue}
 use Rattle.reader.specs.declared.state.Instruction.{Instruction}
 use Rattle.reader.specs.declared.state.State.{State}
-use Rattle.reader.specs.Limits.{THREADS, CELLS, DEPTH, INSTRUCTIONS}
-use Rattle.reader.specs.State.{noInstruction, queueOf, positionOf, countOf, codePlace, registerPlace, registerOf}
+use Rattle.reader.specs.Limits.{THREADS, DEPTH, INSTRUCTIONS}
+use Rattle.reader.specs.State.{queueOf, positionOf, countOf}
 use Rattle.reader.specs.Rules.{pick, within, BRANCH, itemFits}
 use Rattle.reader.specs.Drain.{Drainable}
 use Rattle.reader.specs.Range.{InRange}
@@ -24,7 +23,6 @@ use Rattle.machine.specs.declared.effect.Effect.{Effect}
 use Rattle.machine.specs.declared.outcome.Outcome.{Outcome}
 use Rattle.machine.specs.Action.{Action, read, store, fence, swap, acquire, release, silent, end, actionOf, currentOf, nextOf}
 use Rattle.machine.specs.Effect.{cellOf, seenOf, guard, blockedOf, effectOf, tookOf}
-use Rattle.machine.specs.Buffer.{afterOf}
 use Rattle.machine.specs.Look.{Lookable, lookedOf}
 use Rattle.machine.specs.Run.{refusedOf, takenOf, unless}
 use Rattle.machine.specs.Step.{takeStep}

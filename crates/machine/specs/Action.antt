@@ -1,7 +1,7 @@
 -- What an instruction is, said once for the machine with buffers and the one-memory machine. Position, branch, sum and the two kinds of STORE
 -- are settled here.
 use Prim.Native.Nat.{ℕ, _+_}
-use mathlib.Core.List.{List, [], _∷_}
+use mathlib.Core.List.{[], _∷_}
 use lib.ListN.{getD}
 use lib.IntN.{ℤ}
 use lib.Dec.{ltb}

@@ -6,7 +6,7 @@ ghost use Rattle.reader.specs.Limits.{THREADS, CELLS, REGISTERS, DEPTH, INSTRUC
 ghost use Rattle.reader.specs.State.{codePlace, registerPlace, queueOf};
 ghost use Rattle.reader.specs.Rules.{pick};
 ghost use Rattle.machine.specs.Integer.{eqZ, sumOf};
-ghost use Rattle.machine.specs.Action.{actionOf, read, store, fence, swap, silent};
+ghost use Rattle.machine.specs.Action.{actionOf, read, store, swap, silent};
 ghost use Rattle.machine.specs.Effect.{cellOf, guard, pends, blockedOf, quietOf, effectOf, tookOf};
 ghost use Rattle.machine.specs.Look.{Lookable, lookedOf};
 ghost use lib.Dec.{leb};

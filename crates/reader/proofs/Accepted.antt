@@ -1,13 +1,12 @@
 -- The reader's promise: a case that is not refused starts a state in range, with empty buffers, registers and positions 0 and flags clear.
-use Prim.Native.Nat.{ℕ, _≤_, _<_}
+use Prim.Native.Nat.{ℕ, _<_}
 use mathlib.Core.Bool.{Bool, true, false}
-use mathlib.Core.Path.{_≡_, refl, sym, ap, _∙_}
+use mathlib.Core.Path.{_≡_, refl, ap}
 use mathlib.Core.List.{List}
 use native.Mathlib.Omega.{arith}
-use lib.ListN.{length, getD, getD-replicate}
+use lib.ListN.{getD-replicate}
 use borrow.Author.Tests.{eqb-true, eqb-false}
 use Rattle.reader.specs.declared.judged.Judged.{Judged}
-use Rattle.reader.specs.declared.state.Queue.{Queue}
 use Rattle.reader.specs.declared.state.State.{State}
 use Rattle.reader.specs.declared.judged.Part.{Part}
 use Rattle.reader.specs.declared.Reading.{Reading}
@@ -15,12 +14,12 @@ use Rattle.reader.specs.Limits.{THREADS}
 use Rattle.reader.specs.Bytes.{byte}
 use Rattle.reader.specs.State.{noQueue, outsideQueue, queueOf, freshOf}
 use Rattle.reader.specs.Rules.{pick}
-use Rattle.reader.specs.Range.{CellIn, ProgramIn, QueueIn, InRange, Shaped, Started, WellFormed}
+use Rattle.reader.specs.Range.{CellIn, ProgramIn, InRange, Shaped, Started, WellFormed}
 use Rattle.reader.specs.Case.{fine, after, frontJudged, sizesJudged, sizedOf, cellsOf, programsOf, scheduledOf, refusedOf, readOf}
 use Rattle.reader.proofs.Kept.{Kept, kept-all, kept-threads, kept-cells, cells-kept, programs-kept}
 use Rattle.reader.proofs.Parts.{Sizes, sizes-fine, firstPart}
-use Rattle.reader.proofs.CellRange.{CellsIn, cells-in}
-use Rattle.reader.proofs.ProgramRange.{ProgramsIn, programs-in}
+use Rattle.reader.proofs.CellRange.{cells-in}
+use Rattle.reader.proofs.ProgramRange.{programs-in}
 use Rattle.reader.proofs.ScheduleRange.{schedule-right}
 
 chosen-fine : (j : Judged) (r : Reading) (t : Bool) → fine j ≡ t → pick t r (refusedOf j) .number ≡ 0 → (j .number ≡ 0) × (pick t r (refusedOf j) ≡ r)

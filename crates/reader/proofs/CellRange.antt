@@ -1,7 +1,6 @@
 -- Cells that were read without a refusal are in range.
-use Prim.Native.Nat.{ℕ, zero, suc, _+_, _≤_, _<_}
-use mathlib.Core.Bool.{Bool, true, false}
-use mathlib.Core.Path.{_≡_, refl, sym, _∙_}
+use Prim.Native.Nat.{ℕ, suc, _+_, _≤_, _<_}
+use mathlib.Core.Path.{_≡_}
 use mathlib.Core.List.{List}
 use native.Mathlib.Omega.{arith}
 use native.Mathlib.Decide.{ℕ-discrete}
@@ -13,15 +12,14 @@ use Rattle.reader.specs.declared.bytes.Cell.{Cell}
 use Rattle.reader.specs.declared.state.State.{State}
 use Rattle.reader.specs.declared.judged.Part.{Part}
 use Rattle.reader.specs.Limits.{CELLS}
-use Rattle.reader.specs.Bytes.{byte, cellAt}
+use Rattle.reader.specs.Bytes.{cellAt}
 use Rattle.reader.specs.Rules.{cellBytes, cellWrong}
-use Rattle.reader.specs.State.{freshOf}
 use Rattle.reader.specs.Range.{CellIn}
-use Rattle.reader.specs.Case.{fine, partJudged, cellJudged, withCell, cellInto, cellsOf}
+use Rattle.reader.specs.Case.{partJudged, cellJudged, withCell, cellInto, cellsOf}
 use Rattle.reader.proofs.Each.{each-fine}
 use Rattle.reader.proofs.Fields.{refuses, field-right, pick-fine}
 use Rattle.reader.proofs.Instructions.{checked}
-use Rattle.reader.proofs.Kept.{Kept, kept-cells, kept-cell}
+use Rattle.reader.proofs.Kept.{Kept, kept-cell}
 
 -- what a cell record that is not wrong holds
 record CellRight (threads : ℕ) (x : Cell) : Type 0 where

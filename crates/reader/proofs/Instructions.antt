@@ -1,5 +1,5 @@
 -- What an instruction that a case could hold has: what the layers above ask of it, and "An unused field must be zero" over the whole table.
-use Prim.Native.Nat.{ℕ, _+_, _≤_, _<_}
+use Prim.Native.Nat.{ℕ, _≤_, _<_}
 use mathlib.Core.Bool.{Bool, true, false}
 use mathlib.Core.Path.{_≡_, refl}
 use native.Mathlib.Omega.{arith}

@@ -1,10 +1,8 @@
 -- The parts of a case in turn: where each one is fine the next is read, and the first that is refused is the answer.
 use Prim.Native.Nat.{ℕ, _≤_}
-use mathlib.Core.Bool.{Bool, true, false}
 use mathlib.Core.Path.{_≡_, sym, ap, _∙_}
 use mathlib.Core.List.{List}
 use native.Mathlib.Omega.{arith}
-use lib.ListN.{length}
 use borrow.Author.Tests.{eq-eqb, ne-eqb}
 use Rattle.reader.specs.declared.judged.Judged.{Judged}
 use Rattle.reader.specs.declared.state.State.{State}

@@ -1,13 +1,12 @@
 -- Programs that were read without a refusal hold instructions as a case may hold them. They lie in one array, each thread in its own part.
-use Prim.Native.Nat.{ℕ, zero, suc, _+_, _*_, _≤_, _<_}
-use mathlib.Core.Bool.{Bool, true, false}
-use mathlib.Core.Path.{_≡_, refl, sym, _∙_}
+use Prim.Native.Nat.{ℕ, suc, _*_, _≤_, _<_}
+use mathlib.Core.Path.{_≡_, refl}
 use mathlib.Core.List.{List}
 use native.Mathlib.Omega.{arith}
 use native.Mathlib.Decide.{ℕ-discrete}
 use lib.ListN.{length, getD, set}
 use lib.Seq.{getD-set-same, getD-set-other}
-use borrow.Author.Tests.{eqb-true, eqb-false, eq-eqb}
+use borrow.Author.Tests.{eq-eqb}
 use Rattle.reader.specs.declared.state.Instruction.{Instruction}
 use Rattle.reader.specs.declared.state.State.{State}
 use Rattle.reader.specs.declared.judged.Part.{Part}
@@ -15,8 +14,8 @@ use Rattle.reader.specs.Limits.{THREADS, INSTRUCTIONS}
 use Rattle.reader.specs.Bytes.{byte, instructionAt}
 use Rattle.reader.specs.Rules.{instructionBytes, instructionWrong}
 use Rattle.reader.specs.State.{noInstruction, codePlace, countOf, instructionOf}
-use Rattle.reader.specs.Range.{CellIn, ProgramIn}
-use Rattle.reader.specs.Case.{fine, filled, goOn, partJudged, countJudged, instructionJudged, withInstruction, instructionInto, instructionsOf, withCount, programInto, programsOf}
+use Rattle.reader.specs.Range.{ProgramIn}
+use Rattle.reader.specs.Case.{fine, filled, partJudged, countJudged, instructionJudged, withInstruction, instructionInto, instructionsOf, withCount, programInto, programsOf}
 use Rattle.reader.proofs.Each.{turned, each-fine}
 use Rattle.reader.proofs.Fields.{refuses, field-right, pick-fine}
 use Rattle.reader.proofs.Turns.{count-fine}

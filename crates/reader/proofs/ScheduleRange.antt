@@ -13,7 +13,7 @@ use Rattle.reader.specs.Limits.{ITEMS}
 use Rattle.reader.specs.Bytes.{byte, pairAt}
 use Rattle.reader.specs.Rules.{itemFits}
 use Rattle.reader.specs.Range.{Scheduled}
-use Rattle.reader.specs.Case.{next, andThen, whole, field, itself, itemJudged, itemsJudged, endJudged, itemCountJudged, scheduleJudged}
+use Rattle.reader.specs.Case.{next, andThen, whole, itself, itemJudged, itemsJudged, endJudged, itemCountJudged, scheduleJudged}
 use Rattle.reader.proofs.Each.{each-fine}
 use Rattle.reader.proofs.Fields.{refuses, need-fine, then-fine, whole-fine, field-there, field-right, field-next}
 use Rattle.reader.proofs.Turns.{item-count-there}

@@ -1,6 +1,5 @@
 -- What a field that is fine holds, and that one turn of each loop of the reader is one field of the definition.
 use Prim.Native.Nat.{ℕ, _+_, _≤_, _<_}
-use mathlib.Core.Bool.{Bool}
 use mathlib.Core.Path.{_≡_}
 use mathlib.Core.List.{List}
 use native.Mathlib.Omega.{arith}

@@ -1,6 +1,6 @@
 // Verdicts on fields: what every part of the reader answers with.
 ghost use mathlib.Core.Path.{_≡_};
-ghost use Prim.Native.Nat.{_+_, _≤_, _<_, _^_};
+ghost use Prim.Native.Nat.{_+_, _<_, _^_};
 ghost use Rattle.reader.specs.Case.{refuse, verdictOf, whole, countJudged};
 use crate::bytes;
 use crate::rules;

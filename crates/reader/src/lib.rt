@@ -1,7 +1,6 @@
 // The lowest layer: what a case is, and from bytes to the state that it starts. Nothing here knows how a thread steps.
 ghost use mathlib.Core.Path.{_≡_};
 ghost use Rattle.reader.specs.Case.{frontJudged, sizesJudged, sizedOf, refusedOf, scheduledOf, readOf};
-ghost use Rattle.reader.specs.Rules.{within};
 ghost use Rattle.reader.specs.Limits.{THREADS, CELLS};
 ghost use Prim.Native.Nat.{_+_, _≤_};
 ghost use lib.ListN.{length};

@@ -1,9 +1,6 @@
 -- The laws of Checked, one for each way out.
 use denote.Ref.{now}
 use Rattle.discipline.proofs.Checked.{read-right, part-same, start-within, place-within, runnable-read, items-read, checks-refused, checks-short-values, checks-short-memory, checks-ran}
-use mathlib.Core.Path.{_≡_, _∙_}
-use mathlib.Core.List.{List}
-use lib.ListN.{length}
 use Rattle.discipline.proofs.Checked.{read-right, start-within, place-within, runnable-read, items-read, checks-refused, checks-short-values, checks-short-memory, checks-ran}
 use native.Mathlib.Omega.{arith}
 use borrow.Author.Needs.{needs}

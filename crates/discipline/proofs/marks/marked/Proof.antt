@@ -1,7 +1,7 @@
 -- Each arm by its number, the last by being none of the ten.
 use Rattle.machine.specs.Action.{actionOf}
 use Rattle.discipline.specs.Marks.{marksOf}
-use Rattle.machine.proofs.Ten.{NoneOfTen, unknown-end}
+use Rattle.machine.proofs.Ten.{unknown-end}
 use borrow.Author.Needs.{needs}
 use Rattle.discipline.proofs.marks.marked.Statement.{statement}
 use Rattle.discipline.proofs.marks.marked.Tie as tie

@@ -8,7 +8,7 @@ use Rattle.reader.specs.State.{noInstruction}
 use Rattle.reader.specs.Drain.{oldestOf}
 use Rattle.discipline.specs.Step.{checkedOf}
 use Rattle.machine.proofs.Runs.{Going, start, turn, stopped, ended}
-use Rattle.machine.proofs.Take.{row-below, row-few, row-drainable, position-below, current-lookable}
+use Rattle.machine.proofs.Take.{row-below, row-drainable, position-below, current-lookable}
 use mathlib.Core.Logic.{⊎-elim}
 use Rattle.discipline.proofs.Decided.{Searched, searched, not-searched, rows-in, decidable-in, end-checked, refused-checked, taken-checked}
 use Rattle.discipline.proofs.Turns.{Good, empty-drain, taken-drain, take-item, drain-there, take-there, good-drained, good-took, good-room, drained-placed, took-placed}

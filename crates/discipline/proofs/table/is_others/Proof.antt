@@ -1,5 +1,4 @@
 -- By the test on the owner.
-use mathlib.Core.Path.{sym}
 use borrow.Author.Tests.{eq-eqb, ne-eqb}
 use borrow.Author.Needs.{needs}
 use Rattle.discipline.proofs.table.is_others.Statement.{statement}

@@ -1,7 +1,7 @@
 -- Each arm by its number, the last by being none of the ten.
 use Rattle.machine.specs.Action.{actionOf}
 use Rattle.machine.specs.Effect.{blockedOf}
-use Rattle.machine.proofs.Ten.{NoneOfTen, unknown-end}
+use Rattle.machine.proofs.Ten.{unknown-end}
 use borrow.Author.Needs.{needs}
 use Rattle.machine.proofs.effect.blocked.Statement.{statement}
 use Rattle.machine.proofs.effect.blocked.Tie as tie

@@ -5,7 +5,7 @@ use mir.Syntax.{w32}
 use borrow.Author.Needs.{needs}
 use Rattle.machine.specs.Action.{actionOf}
 use Rattle.machine.specs.Effect.{effectOf}
-use Rattle.machine.proofs.Ten.{NoneOfTen, unknown-end}
+use Rattle.machine.proofs.Ten.{unknown-end}
 use Rattle.machine.proofs.effect.change.Statement.{statement}
 use Rattle.machine.proofs.effect.change.Tie as tie
 

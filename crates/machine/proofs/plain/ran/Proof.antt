@@ -2,7 +2,6 @@
 use Prim.Native.Nat.{_-_}
 use mathlib.Core.Path.{_≡_, refl}
 use lib.ListN.{length}
-use denote.Ref.{now}
 use mir.Val.{toZ, ofZ}
 use mir.Syntax.{w32}
 use Rattle.machine.specs.Plain.{plainOf}

@@ -5,8 +5,6 @@ use lib.ListN.{getD}
 use mir.Val.{toZ, ofZ}
 use mir.Syntax.{w32}
 use Rattle.reader.specs.State.{noInstruction}
-use Rattle.reader.specs.Limits.{DEPTH}
-use Prim.Native.Nat.{_≤_}
 use Rattle.machine.proofs.Take.{row-below, position-below, current-lookable, looked-at}
 use Rattle.machine.proofs.PlainTake.{plain-end, at-once-puts, plain-step}
 use native.Mathlib.Omega.{arith}

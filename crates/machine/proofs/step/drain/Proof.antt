@@ -1,5 +1,4 @@
 -- By the test on the count.
-use mathlib.Core.Path.{_∙_}
 use borrow.Author.Tests.{eq-eqb, ne-eqb}
 use Rattle.machine.specs.Effect.{guard}
 use Rattle.machine.specs.Run.{unless}

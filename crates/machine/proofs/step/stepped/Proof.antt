@@ -1,6 +1,5 @@
 -- By the kind of the item.
-use mathlib.Core.Path.{_≡_, _∙_}
-use Prim.Native.Nat.{_-_, _<_}
+use Prim.Native.Nat.{_-_}
 use borrow.Author.Tests.{le-leb, lt-leb}
 use Rattle.machine.specs.Step.{stepOf}
 use Rattle.machine.proofs.Take.{drain-row, take-row}

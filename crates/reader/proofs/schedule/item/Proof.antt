@@ -1,6 +1,5 @@
 -- A field that is not wholly there, or its verdict.
 use Rattle.reader.specs.Case.{itemJudged}
-use mathlib.Core.Path.{_∙_}
 use Rattle.reader.proofs.Fields.{field-short, field-whole}
 use borrow.Author.Needs.{needs}
 use Rattle.reader.proofs.schedule.item.Statement.{statement}

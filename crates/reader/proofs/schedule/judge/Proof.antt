@@ -1,6 +1,6 @@
 -- The first of count, items and end that is refused, or the items' own verdict.
 use Rattle.reader.specs.Case.{scheduleJudged}
-use mathlib.Core.Path.{sym, _∙_}
+use mathlib.Core.Path.{sym}
 use borrow.Author.Tests.{eq-eqb, ne-eqb, lt-leb, le-leb}
 use Rattle.reader.proofs.Turns.{item-count-there}
 use native.Mathlib.Omega.{arith}

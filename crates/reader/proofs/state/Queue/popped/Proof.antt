@@ -1,5 +1,5 @@
 -- The loop moves entries up one at a time: the first j stand one place further front already.
-use Prim.Native.Nat.{ℕ, _≤_, _<_, _-_, _+_}
+use Prim.Native.Nat.{_≤_, _-_, _+_}
 use mathlib.Core.Path.{_≡_, ap}
 use mathlib.Core.List.{List, _++_}
 use lib.ListN.{length, take, drop, length-map}
