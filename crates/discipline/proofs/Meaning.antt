@@ -74,9 +74,9 @@ module _ (s : State) (t : ℕ) where
   abbrev pub judgedAs : Action → ℕ
   judgedAs a = judgedOf (blockedOf (s .depth) (queueOf s t) a) (brokenOf t (nextHeld s t) (queueOf s t) (nextElsewhere s t) a)
 
-  read-cases : {c : ℕ} (m : ℕ) → Against s t (read c) m → Either (not (owns (nextHeld s t) t) && isLocal (nextHeld s t)) (not (owns (nextHeld s t) t) && isDirty (nextHeld s t)) 30 31 m
+  read-cases : {c : ℕ} (m : ℕ) → Against s t (read c) m → Either (not (owns (nextHeld s t) t) && isLocal (nextHeld s t)) (not (owns (nextHeld s t) t) && (not (isLocal (nextHeld s t)) && isDirty (nextHeld s t))) 30 31 m
   read-cases m (load-local o l) = first (rw (o, l)) refl
-  read-cases m (load-dirty o d) = second (rw (o, d)) refl
+  read-cases m (load-dirty o l d) = second (rw (o, l, d)) refl
 
   store-cases : {c : ℕ} {x : ℤ} (m : ℕ) → Against s t (store c x) m → Either (leb (s .depth) (queueOf s t .count)) (others (nextHeld s t) t) 22 32 m
   store-cases m (buffer-full h) = first h refl
@@ -107,7 +107,7 @@ module _ (s : State) (t : ℕ) where
   unfolding blockedOf brokenOf loadBreaks storeBreaks acquireBreaks releaseBreaks
   judges (read c) =
       two _ _ 30 31 (omega arith) (omega arith)
-      (λ e. let b = split-and _ _ e in load-local (not-true _ (b .0)) (b .1)) (λ e. let b = split-and _ _ e in load-dirty (not-true _ (b .0)) (b .1)) read-cases
+      (λ e. let b = split-and _ _ e in load-local (not-true _ (b .0)) (b .1)) (λ e. let b = split-and _ _ e in let d = split-and _ _ (b .1) in load-dirty (not-true _ (b .0)) (not-true _ (d .0)) (d .1)) read-cases
   judges (store c x) = rw (judged-guard (leb (s .depth) (queueOf s t .count)) 22 (guard (others (nextHeld s t) t) 32 0) (omega arith)) (two _ _ 22 32 (omega arith) (omega arith) buffer-full store-others store-cases)
   judges fence = rw (judged-guard (pends (queueOf s t)) 21 0 (omega arith)) (one _ 21 (omega arith) fence-waits fence-cases)
   judges (swap c old x) = rw (judged-guard (pends (queueOf s t)) 21 (guard (others (nextHeld s t) t) 32 0) (omega arith)) (two _ _ 21 32 (omega arith) (omega arith) swap-waits swap-others swap-cases)

@@ -26,7 +26,7 @@ module _ (s : State) (t : ℕ) where
     -- "load of another's local cell"
     load-local : {c : ℕ} → owns (nextHeld s t) t ≡ false → isLocal (nextHeld s t) ≡ true → Against (read c) 30
     -- "load of a shared cell not one's own, dirty flag set"
-    load-dirty : {c : ℕ} → owns (nextHeld s t) t ≡ false → isDirty (nextHeld s t) ≡ true → Against (read c) 31
+    load-dirty : {c : ℕ} → owns (nextHeld s t) t ≡ false → isLocal (nextHeld s t) ≡ false → isDirty (nextHeld s t) ≡ true → Against (read c) 31
     -- "store or COMPARE-SWAP to another's cell"
     store-others : {c : ℕ} {x : ℤ} → others (nextHeld s t) t ≡ true → Against (store c x) 32
     swap-others : {c : ℕ} {old x : ℤ} → others (nextHeld s t) t ≡ true → Against (swap c old x) 32

@@ -11,7 +11,7 @@ use Rattle.discipline.specs.Table.{owned, owns, others, isLocal, isDirty
 module _ (t : ℕ) (h : Held) where
   -- "a cell the thread owns, always; another cell only if it is shared and the thread's dirty flag is clear"
   unfoldable pub loadBreaks : ℕ
-  loadBreaks = guard (not (owns h t) && isLocal h) 30 (guard (not (owns h t) && isDirty h) 31 0)
+  loadBreaks = guard (not (owns h t) && isLocal h) 30 (guard (not (owns h t) && (not (isLocal h) && isDirty h)) 31 0)
 
   -- "Store and COMPARE-SWAP (whether or not it writes): a cell that no other thread owns."
   unfoldable pub storeBreaks : ℕ
