@@ -1,0 +1,2 @@
+-- The law that joins the check and the report.
+pub mod Joined

@@ -1,0 +1,2 @@
+-- What the program's contract cites.
+pub mod Output
