@@ -1,5 +1,5 @@
--- The ownership table and the dirty flag, as the rules look at them: what is held of the cell that an instruction is about. Nothing above this file
--- asks how the table is kept.
+-- The ownership table and the dirty flag, as the rules look at them: what is held of the cell that an instruction is about. The rules ask
+-- for nothing else of the table; a step alone puts the lists back.
 use Prim.Native.Nat.{ℕ, _+_}
 use mathlib.Core.Bool.{Bool, _&&_, not}
 use mathlib.Core.List.{List}

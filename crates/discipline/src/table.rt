@@ -1,4 +1,4 @@
-// The ownership table and the dirty flag, as the rules look at them. Owner and sharing are read and changed nowhere else.
+// The ownership table and the dirty flag, as the rules look at them. What an item makes of them is decided here and in marks; run stores it.
 ghost use mathlib.Core.Path.{_≡_};
 ghost use Prim.Native.Nat.{_+_, _<_};
 ghost use Rattle.reader.specs.Limits.{THREADS};
