@@ -1,5 +1,6 @@
 pub mod Searches
 pub mod Decided
+pub mod Holding
 pub mod Sound
 pub mod Turns
 pub mod Copied

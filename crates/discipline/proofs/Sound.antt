@@ -4,8 +4,7 @@ use mathlib.Core.Bool.{_&&_}
 use mathlib.Core.Path.{_≡_, refl}
 use native.Mathlib.Omega.{arith}
 use native.Mathlib.Decide.{ℕ-discrete}
-use lib.ListN.{getD, set, length-set}
-use lib.Seq.{getD-set-same, getD-set-other}
+use lib.ListN.{length-set}
 use Rattle.reader.specs.declared.state.Instruction.{Instruction}
 use Rattle.reader.specs.declared.state.State.{State}
 use Rattle.reader.specs.State.{queueOf, positionOf, countOf}
@@ -25,6 +24,7 @@ use Rattle.discipline.specs.Table.{heldOf, owns, isLocal, acquired, rele
 use Rattle.discipline.specs.Marks.{storedOf, marksOf}
 use Rattle.discipline.specs.Run.{Runnable}
 use Rattle.discipline.specs.Step.{nextHeld, nextMarks}
+use Rattle.discipline.proofs.Holding.{owner-same, sharing-same, owner-other, sharing-other}
 
 -- what may be held of a cell
 record HeldIn (threads : ℕ) (h : Held) : Type 0 where
@@ -37,18 +37,16 @@ module _ {m : State} (g : Runnable m) (t : ℕ) (i : Instruction) (b : cellOf i 
   unfolding holdingOf
   new-cell =
       let n = g .inRange .cells in
-      let lo = g .shaped .owners in
-      let ls = g .shaped .sharing in
-      let a : getD (set (m .owners) (cellOf i) (h .owner)) (cellOf i) 0 ≡ h .owner = getD-set-same (m .owners) (cellOf i) (h .owner) 0 (omega arith) in
-      let c : getD (set (m .sharing) (cellOf i) (h .sharing)) (cellOf i) 0 ≡ h .sharing = getD-set-same (m .sharing) (cellOf i) (h .sharing) 0 (omega arith) in
-      record { owner = rw a (k .owner); sharing = rw c (k .sharing); unowned = rw (a, c) (k .unowned) }
+      let o = owner-same m t i h (g .shaped) (omega arith) in
+      let d = sharing-same m t i h (g .shaped) (omega arith) in
+      record { owner = rw o (k .owner); sharing = rw d (k .sharing); unowned = rw (o, d) (k .unowned) }
 
   old-cell : (c : ℕ) → (c ≡ cellOf i → ⊥) → CellIn m c → CellIn (holdingOf m t i h) c
   unfolding holdingOf
   old-cell c ne x =
-      let a : getD (set (m .owners) (cellOf i) (h .owner)) c 0 ≡ getD (m .owners) c 0 = getD-set-other (m .owners) (cellOf i) c (h .owner) 0 ne in
-      let d : getD (set (m .sharing) (cellOf i) (h .sharing)) c 0 ≡ getD (m .sharing) c 0 = getD-set-other (m .sharing) (cellOf i) c (h .sharing) 0 ne in
-      record { owner = rw a (x .owner); sharing = rw d (x .sharing); unowned = rw (a, d) (x .unowned) }
+      let o = owner-other m t i h c ne in
+      let d = sharing-other m t i h c ne in
+      record { owner = rw o (x .owner); sharing = rw d (x .sharing); unowned = rw (o, d) (x .unowned) }
 
   any-cell : (c : ℕ) → c < m .cells → CellIn (holdingOf m t i h) c
   any-cell c l = go (ℕ-discrete c (cellOf i))
