@@ -41,12 +41,15 @@ module _ {case : List ℕ} {r : Reading} (w : WellFormed case r) where
   pub runnable-read : Runnable (r .state)
   runnable-read = record { inRange = w .inRange; shaped = w .shaped }
 
-  -- the items are right, and there is a value for each
+  -- the items are right
+  pub schedule-items : Items (r .state .threads) (scheduleOf case r)
+  schedule-items k b = let l = schedule-length in rw (getD-drop (r .start) case k 0) (w .schedule .item k (omega arith))
+
+  -- and there is a value for each
   pub items-read : {xs : List ℕ} → xs ≡ scheduleOf case r → (values : List ℤ) → r .items ≤ length values → Items (r .state .threads) xs × (length xs ≤ length values)
   items-read e values h =
       let l = schedule-length in
-      rw e
-      (λ k b. rw (getD-drop (r .start) case k 0) (w .schedule .item k (omega arith)), omega arith)
+      rw e (schedule-items, omega arith)
 
   pub place-within : {xs : List ℕ} → xs ≡ scheduleOf case r → {vs vs′ : List ℤ} {q : Ran} → Answers checkedOf (r .state) xs vs q vs′ → r .start + q .place ≤ length case
   place-within {xs} ex a =

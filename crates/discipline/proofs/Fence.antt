@@ -28,24 +28,7 @@ use Rattle.discipline.specs.Fence.{FENCE, AtFence, Waits, now, own-drain
 use Rattle.discipline.proofs.Decided.{judged-first, both-checked}
 use Rattle.discipline.proofs.Turns.{empty-drain, taken-drain, take-item}
 use Rattle.discipline.proofs.Meaning.{judgedAs, take-number}
-
--- the states that an item which is taken leads to
-never : _≡_ {A = ℕ} 23 0 → ⊥
-never e = omega arith
-
-drain-taken : (s : State) (u : ℕ) → checkedOf s (17 + u) .number ≡ 0 → checkedOf s (17 + u) ≡ takenOf (drainedOf s u) (pos 0)
-drain-taken s u z = go (ℕ-discrete (queueOf s u .count) 0)
-  where
-    go : Dec (queueOf s u .count ≡ 0) → checkedOf s (17 + u) ≡ takenOf (drainedOf s u) (pos 0)
-    go (yes e) = absurd (never (subst (λ (o : Outcome). o .number ≡ 0) (sym (empty-drain s {x = 17 + u} (omega arith) (omega arith) e)) z))
-    go (no n) = sym (taken-drain s {x = 17 + u} (omega arith) (omega arith) n)
-
-instruction-taken : (s : State) (u : ℕ) → u < 16 → checkedOf s (1 + u) .number ≡ 0 → checkedOf s (1 + u) ≡ takenOf (holdingOf (tookOf s u (currentOf s u) (nextEffect s u)) u (currentOf s u) (nextMarks s u)) (nextEffect s u .value)
-instruction-taken s u l z =
-    let e = take-item s {x = 1 + u} {t = u} (omega arith) (omega arith) in
-    let n : checkedTake s u .number ≡ 0 = rw e z in
-    let j = judged-first (blockedOf (s .depth) (queueOf s u) (nextOf s u)) (nextBroken s u) (sym (take-number s u) ∙ n) in
-    sym e ∙ both-checked s u (j .0) (j .1)
+use Rattle.discipline.proofs.Outcomes.{drain-taken, instruction-taken}
 
 -- row t waits at a FENCE with n stores pending
 record Waiting (t n : ℕ) (s : State) : Type 0 where

@@ -1,6 +1,13 @@
 pub mod Searches
 pub mod Decided
 pub mod Holding
+pub mod Maps
+pub mod Abstract
+pub mod Waiting
+pub mod Coupling
+pub mod View
+pub mod Viewed
+pub mod Buffers
 pub mod Sound
 pub mod Turns
 pub mod Copied
@@ -8,4 +15,11 @@ pub mod Checked
 pub mod One
 pub mod Meaning
 pub mod Coincide
+pub mod Outcomes
 pub mod Fence
+pub mod Taking
+pub mod Logged
+pub mod Stepping
+pub mod Reduced
+pub mod Point3
+pub mod Theorem

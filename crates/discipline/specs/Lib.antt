@@ -8,4 +8,6 @@ pub mod Run
 pub mod Check
 pub mod Meaning
 pub mod Fence
+pub mod Order
+pub mod OneMemory
 pub mod Runs

@@ -28,7 +28,7 @@ unfolding atOnce
 at-once-puts e q b = false-true (rw q at b)
 
 module _ {s : State} (g : InRange s) {t : ℕ} (h : t < s .threads) (l : positionOf s t < countOf s t) where
-  goes-on : endedOf (nextOf s t) ≡ 0
+  pub goes-on : endedOf (nextOf s t) ≡ 0
   goes-on =
       let c = current-in g h l in
       rw (sym (next-action s t l refl refl)) (known-goes c _ _)
