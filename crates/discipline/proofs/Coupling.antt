@@ -14,7 +14,7 @@ use Rattle.discipline.specs.Order.{busy, quiet, stored, drains}
 use Rattle.discipline.proofs.Maps.{upd, upd-same, upd-other, at-or}
 use Rattle.discipline.proofs.Abstract.{Act, stays, loads, stores, fences, swaps, acquires, releases, Table, enter, Machine, Plain, drained, pends, act, with-thread, Open, dirtied, plan}
 use Rattle.discipline.proofs.Abstract.{Readable, own, shared, Takes, t-silent, t-load, t-store, t-fence, t-swap, t-acquire, t-release, Drains, t-drain}
-use Rattle.discipline.proofs.Waiting.{calm-busy, suc-open, zero-open, or-left, or-right, undirtied, stable, early, late, Agree, pends-snoc, upd-at, drained-at, drained-split, drained-snoc, one, solo, To, rest, done, end, link, Waits, Fits}
+use Rattle.discipline.proofs.Waiting.{calm-busy, suc-open, zero-open, or-left, or-right, undirtied, stable, early, late, Agree, pends-snoc, upd-at, drained-at, drained-split, drained-snoc, one, solo, To, rest, done, end, link, Fits}
 use Rattle.discipline.proofs.Waiting.{waits-early, fits-keep, fits-skip, calm-loc, calm-move, calm-push, fits-push, fits-bump, empty-counts, empty-fits}
 
 module _ {L : Type 0} (next : L → Act L) where

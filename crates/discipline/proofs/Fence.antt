@@ -1,12 +1,10 @@
 -- "A waiting FENCE has no other hurdle: after as many drains of its thread as there are stores pending, at most 8, it is taken, with taken items of
 -- other threads in between making no difference."
 use Prim.Native.Nat.{ℕ, suc, _+_, _-_, _<_, _≤_}
-use mathlib.Core.Path.{_≡_, sym, ap, subst, _∙_}
+use mathlib.Core.Path.{_≡_, sym, ap, _∙_}
 use native.Mathlib.Omega.{arith}
-use native.Mathlib.Decide.{ℕ-discrete}
 use lib.ListN.{length, getD, set, length-set}
 use lib.Seq.{getD-set-same, getD-set-other}
-use lib.IntN.{pos}
 use Rattle.reader.specs.declared.state.State.{State}
 use Rattle.reader.specs.Limits.{DEPTH}
 use Rattle.reader.specs.State.{outsideQueue, queueOf, positionOf}
@@ -15,7 +13,6 @@ use Rattle.reader.specs.Drain.{drainedOf}
 use Rattle.machine.specs.declared.outcome.Outcome.{Outcome}
 use Rattle.machine.specs.Action.{actionOf, fence, currentOf, nextOf}
 use Rattle.machine.specs.Effect.{guard, blockedOf, tookOf}
-use Rattle.machine.specs.Run.{takenOf}
 use Rattle.machine.specs.Step.{nextEffect}
 use Rattle.machine.proofs.InRange.{next-goes}
 use Rattle.machine.proofs.Take.{row-few}
@@ -23,10 +20,9 @@ use Rattle.machine.proofs.Frame.{took-queue-other, drained-queue-other}
 use Rattle.discipline.specs.Table.{holdingOf}
 use Rattle.discipline.specs.Rules.{brokenOf}
 use Rattle.discipline.specs.Run.{Runnable}
-use Rattle.discipline.specs.Step.{nextBroken, nextMarks, checkedTake, checkedOf}
-use Rattle.discipline.specs.Fence.{FENCE, AtFence, Waits, now, own-drain, other-takes, other-drains}
-use Rattle.discipline.proofs.Decided.{judged-first, both-checked}
-use Rattle.discipline.proofs.Turns.{empty-drain, taken-drain, take-item}
+use Rattle.discipline.specs.Step.{nextMarks, checkedOf}
+use Rattle.discipline.specs.Fence.{AtFence, Waits, now, own-drain, other-takes, other-drains}
+use Rattle.discipline.proofs.Turns.{take-item}
 use Rattle.discipline.proofs.Meaning.{judgedAs, take-number}
 use Rattle.discipline.proofs.Outcomes.{drain-taken, instruction-taken}
 

@@ -6,6 +6,7 @@ pub mod Abstract
 pub mod Waiting
 pub mod Coupling
 pub mod View
+pub mod Free
 pub mod Viewed
 pub mod Buffers
 pub mod Sound

@@ -1,5 +1,5 @@
 -- What the threads did in a run of any machine that steps: a log for each row, kept along the items.
-use Prim.Native.Nat.{ℕ, zero, suc, _+_, _-_, _<_, _≤_}
+use Prim.Native.Nat.{ℕ, suc, _+_, _-_, _<_, _≤_}
 use mathlib.Core.Bool.{Bool, true, false, _&&_}
 use mathlib.Core.Path.{_≡_, refl, sym, _∙_, ap}
 use mathlib.Core.List.{List, [], _∷_, _++_, append-nil}
@@ -8,7 +8,7 @@ use native.Mathlib.Decide.{ℕ-discrete}
 use lib.Dec.{eqb, leb}
 use lib.IntN.{ℤ}
 use lib.Seq.{append-snoc}
-use borrow.Author.Tests.{eqb-true, eqb-false, eq-eqb, ne-eqb, leb-true, leb-false, lt-leb}
+use borrow.Author.Tests.{eqb-true, eq-eqb, ne-eqb, leb-true, lt-leb}
 use Rattle.reader.specs.declared.state.State.{State}
 use Rattle.reader.specs.State.{positionOf}
 use Rattle.reader.specs.Rules.{pick}
@@ -109,8 +109,8 @@ module _ (step : State → ℕ → Outcome) where
   extend-one true g at a v path values = by (reads a)
     where
       by : (c : Bool) → extended (record { path = g .path ++ at ∷ []; values = pick c (g .values ++ v ∷ []) (g .values); over = g .over }) path values ≡ extended g (at ∷ path) (pick c (v ∷ values) values)
-      by true = rw (append-snoc, append-snoc) refl
-      by false = rw append-snoc refl
+      by true = rw (append-snoc (g .path) at path, append-snoc (g .values) v values) refl
+      by false = rw (append-snoc (g .path) at path) refl
 
   -- the logs of a run that takes all items are the paths and the values read
   pub log-run : (s : State) (k : ℕ) (xs : List ℕ) (ws : List ℤ) (logs : ℕ → Log) (t : ℕ) → t < 16 → Named xs → runOf step s k xs .number ≡ 0 →

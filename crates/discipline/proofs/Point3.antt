@@ -1,6 +1,6 @@
 -- Point 3, from the coupling: where every buffer is empty nothing waits, so both machines are alike.
 use Prim.Native.Nat.{ℕ, zero, suc, _+_, _-_, _*_, _/_, _%_, _<_, _≤_}
-use mathlib.Core.Bool.{Bool, true, false, _&&_}
+use mathlib.Core.Bool.{Bool, true, false}
 use mathlib.Core.Path.{_≡_, refl, sym, _∙_, ap, subst, fun-ext}
 use mathlib.Core.List.{List, [], _∷_, _++_, append-nil}
 use native.Mathlib.Omega.{arith}
@@ -8,10 +8,10 @@ use lib.ListN.{length, getD, set, take, replicate}
 use lib.Seq.{ext-getD}
 use lib.Dec.{eqb, leb, ltb}
 use lib.IntN.{ℤ, pos}
-use borrow.Author.Tests.{leb-true, leb-false, lt-ltb, ltb-true, eqb-true}
+use borrow.Author.Tests.{leb-true, leb-false, lt-ltb, ltb-true}
 use Rattle.reader.specs.declared.state.State.{State}
 use Rattle.reader.specs.Limits.{THREADS, REGISTERS}
-use Rattle.reader.specs.State.{queueOf, registerOf, positionOf, memoryOf}
+use Rattle.reader.specs.State.{queueOf, registerOf, positionOf}
 use Rattle.reader.specs.Queue.{pending}
 use Rattle.reader.specs.Rules.{pick, itemFits}
 use Rattle.machine.specs.declared.outcome.Outcome.{Outcome}
@@ -26,8 +26,8 @@ use Rattle.discipline.proofs.Meaning.{ran-taken}
 use Rattle.discipline.proofs.Coupling.{Inv, start, alike-mem, alike-loc}
 use Rattle.discipline.proofs.View.{Log, Local, program, registersOf, localOf, view, plainView}
 use Rattle.discipline.proofs.Logged.{Named, Below, logsOf, lastOf, run-last, log-run, none-over}
-use Rattle.discipline.proofs.Stepping.{Keeps, keeps-same}
-use Rattle.discipline.proofs.Reduced.{Fitting, leftOf, Coupled, coupled}
+use Rattle.discipline.proofs.Stepping.{keeps-same}
+use Rattle.discipline.proofs.Reduced.{Fitting, Coupled, coupled}
 
 -- the items of a schedule, one by one
 fitting : (threads : ℕ) (xs : List ℕ) → Items threads xs → Fitting threads xs

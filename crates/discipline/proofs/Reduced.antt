@@ -4,8 +4,8 @@ use mathlib.Core.Bool.{Bool, true, false}
 use mathlib.Core.Path.{_≡_, refl, sym, _∙_, ap, subst}
 use mathlib.Core.List.{List, [], _∷_, _++_}
 use native.Mathlib.Omega.{arith}
-use lib.ListN.{length, getD, set, length-set, replicate}
-use lib.Dec.{eqb, leb}
+use lib.ListN.{length, set, length-set, replicate}
+use lib.Dec.{leb}
 use borrow.Author.Tests.{le-leb, lt-leb, leb-true, leb-false, eq-eqb}
 use Rattle.reader.specs.declared.state.Instruction.{Instruction}
 use Rattle.reader.specs.declared.state.State.{State}
@@ -13,7 +13,7 @@ use Rattle.reader.specs.Limits.{THREADS}
 use Rattle.reader.specs.State.{positionOf}
 use Rattle.reader.specs.Rules.{pick, itemFits}
 use Rattle.reader.specs.Drain.{drainedOf}
-use Rattle.machine.specs.Action.{currentOf, nextOf}
+use Rattle.machine.specs.Action.{nextOf}
 use Rattle.machine.specs.Effect.{tookOf}
 use Rattle.machine.specs.Plain.{plainOf}
 use Rattle.machine.proofs.Take.{drain-row, take-row}
@@ -22,14 +22,13 @@ use Rattle.discipline.specs.Run.{Runnable}
 use Rattle.discipline.specs.Step.{nextMarks, checkedOf}
 use Rattle.discipline.specs.Order.{Plan, drains, planBy, rowOf, planOf, countsOf, orderFrom}
 use Rattle.discipline.specs.Meaning.{Taken, none, more}
-use Rattle.discipline.proofs.Meaning.{ran-taken}
 use Rattle.discipline.proofs.Sound.{drained-sound, took-sound}
-use Rattle.discipline.proofs.Outcomes.{drain-taken, instruction-taken, unblocked-if}
+use Rattle.discipline.proofs.Outcomes.{pending-there, drain-taken, neither, instruction-taken}
 use Rattle.discipline.proofs.Maps.{upd, set-upd}
 use Rattle.discipline.proofs.Abstract.{Act, Plain, dirtied, plan}
 use Rattle.discipline.proofs.Coupling.{Inv, block, sim-take, sim-drain}
-use Rattle.discipline.proofs.View.{Log, Local, noted, program, localOf, view, plainView}
-use Rattle.discipline.proofs.Taking.{about, program-next, plan-same, taken-goes, instruction-takes, pending-there, drain-drains}
+use Rattle.discipline.proofs.View.{Log, Local, noted, program, view, plainView}
+use Rattle.discipline.proofs.Taking.{about, program-next, plan-same, taken-goes, instruction-takes, drain-drains}
 use Rattle.discipline.proofs.Logged.{logsAfter, logsOf, lastOf, last-append, logs-append}
 use Rattle.discipline.proofs.Stepping.{Keeps, keeps-same, keeps-on, steps-block}
 
@@ -91,7 +90,7 @@ module _ {s : State} (g : Runnable s) {t : ℕ} (h : t < s .threads) where
       let n = g .inRange .threads in
       let b : t < 16 = omega arith in
       let l = taken-goes s t b z in
-      rw (instruction-taken s t b z) (record { runnable = took-sound g h l (unblocked-if s t b z); code = refl; counts = refl; threads = refl })
+      rw (instruction-taken s t b z) (record { runnable = took-sound g h l (neither s t b z .0); code = refl; counts = refl; threads = refl })
 
 -- one item: what is kept, and the coupling
 module _ {s : State} (g : Runnable s) (logs : ℕ → Log) (k : List (List ℕ)) (lk : length k ≡ THREADS) (o : Plain Local) (v : Inv (program (s .code) (s .counts)) (view s logs) (countsOf k) o) (x : ℕ) (f : itemFits (s .threads) x ≡ true) (z : checkedOf s x .number ≡ 0) where

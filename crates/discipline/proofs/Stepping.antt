@@ -1,12 +1,10 @@
 -- The one-memory machine of the definitions makes the steps of the one-memory machine of Abstract.
 use Prim.Native.Nat.{ℕ, zero, suc, _+_, _-_, _<_, _≤_}
-use mathlib.Core.Bool.{Bool, true, false, true≢false}
-use mathlib.Core.Logic.{_≢_}
-use mathlib.Core.Path.{_≡_, refl, sym, _∙_, ap, subst, fun-ext}
-use mathlib.Core.List.{List, [], _∷_, _++_}
+use mathlib.Core.Path.{_≡_, refl, sym, _∙_, ap, fun-ext}
+use mathlib.Core.List.{List}
 use native.Mathlib.Omega.{arith}
 use lib.ListN.{replicate}
-use lib.Dec.{eqb, leb}
+use lib.Dec.{eqb}
 use lib.IntN.{ℤ, pos}
 use borrow.Author.Tests.{lt-leb, le-ltb}
 use Rattle.reader.specs.declared.state.Instruction.{Instruction}
@@ -16,13 +14,12 @@ use Rattle.reader.specs.Rules.{pick}
 use Rattle.reader.specs.Range.{Shaped}
 use Rattle.machine.specs.Integer.{eqZ}
 use Rattle.machine.specs.declared.effect.Effect.{Effect}
-use Rattle.machine.specs.declared.outcome.Outcome.{Outcome}
 use Rattle.machine.specs.Buffer.{newestOf}
 use Rattle.machine.specs.Action.{Action, read, store, fence, swap, acquire, release, silent, end, currentOf, nextOf}
 use Rattle.machine.specs.Effect.{cellOf, seenOf, effectOf, tookOf}
-use Rattle.machine.specs.Run.{refusedOf, takenOf}
+use Rattle.machine.specs.Run.{takenOf}
 use Rattle.machine.specs.Plain.{atOnce, endedOf, plainEffect, plainStep, plainOf}
-use Rattle.machine.proofs.Take.{row-below, current-in, current-cell, unless-zero, next-end}
+use Rattle.machine.proofs.Take.{row-below, current-in, current-cell, unless-zero}
 use Rattle.machine.proofs.InRange.{at-end-or, plain-step-in, unless-all}
 use Rattle.machine.proofs.PlainTake.{goes-on, plain-end}
 use Rattle.machine.proofs.Shape.{shaped-took}
@@ -34,7 +31,7 @@ use Rattle.discipline.proofs.Coupling.{block, block-zero, block-suc}
 use Rattle.discipline.proofs.View.{Log, Local, noted, overrun, went, acted, program, registersOf, localOf, memoryMap, plainView}
 use Rattle.discipline.proofs.Viewed.{memory-took, local-took, local-other}
 use Rattle.discipline.proofs.Taking.{About, about, register-there, program-next}
-use Rattle.discipline.proofs.Logged.{logAfter, logsAfter, logsOf, lastOf}
+use Rattle.discipline.proofs.Logged.{logsAfter, logsOf, lastOf}
 
 pair-same : {A B : Type 0} {a a′ : A} {b b′ : B} → a ≡ a′ → b ≡ b′ → _≡_ {A = A × B} (a, b) (a′, b′)
 pair-same {a′ = a′} {b = b} p q = ap (λ x. (x, b)) p ∙ ap (λ y. (a′, y)) q

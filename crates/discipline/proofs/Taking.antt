@@ -1,25 +1,24 @@
 -- The machine with buffers under the discipline, as the definitions have it, takes what the machine of Abstract takes. The rules come in here, as the
 -- reasons that do not stand against an item that is taken.
 use Prim.Native.Nat.{ℕ, suc, _+_, _-_, _<_, _≤_}
-use mathlib.Core.Bool.{Bool, true, false, not, _&&_, _||_, true≢false}
+use mathlib.Core.Bool.{Bool, true, false, not}
 use mathlib.Core.Logic.{_≢_}
 use mathlib.Core.Path.{_≡_, refl, sym, _∙_, ap, subst}
 use mathlib.Core.List.{List, [], _∷_, _++_}
-use native.Mathlib.Nat.{suc-inj, suc-ne-zero}
 use native.Mathlib.Omega.{arith}
 use native.Mathlib.Numerals.{add-one}
-use lib.ListN.{length, take, drop}
-use lib.Dec.{eqb, leb, ltb}
+use lib.ListN.{length, drop}
+use lib.Dec.{eqb, ltb}
 use lib.IntN.{ℤ, pos}
-use borrow.Author.Tests.{eqb-true, leb-false, lt-ltb, ltb-true}
+use borrow.Author.Tests.{lt-ltb, ltb-true}
 use Rattle.reader.specs.declared.state.Pending.{Pending}
 use Rattle.reader.specs.declared.state.Queue.{Queue}
 use Rattle.reader.specs.declared.state.Instruction.{Instruction}
 use Rattle.reader.specs.declared.state.State.{State}
 use Rattle.reader.specs.Limits.{REGISTERS}
-use Rattle.reader.specs.State.{queueOf, positionOf, countOf, dirtyOf, registerOf, memoryOf, ownerOf, sharingOf}
+use Rattle.reader.specs.State.{queueOf, positionOf, countOf, registerOf, memoryOf, ownerOf, sharingOf}
 use Rattle.reader.specs.Queue.{pending, pushedOf}
-use Rattle.reader.specs.Drain.{oldestOf, drainedOf}
+use Rattle.reader.specs.Drain.{oldestOf}
 use Rattle.reader.specs.Rules.{pick, BRANCH}
 use Rattle.reader.specs.Range.{InRange}
 use Rattle.reader.proofs.Row.{pending-pushed}
@@ -27,24 +26,24 @@ use Rattle.machine.specs.declared.effect.Effect.{Effect}
 use Rattle.machine.specs.Integer.{eqZ}
 use Rattle.machine.specs.Buffer.{forwarded, afterOf}
 use Rattle.machine.specs.Action.{Action, read, store, fence, swap, acquire, release, silent, end, LOCAL, actionOf, currentOf, nextOf}
-use Rattle.machine.specs.Effect.{cellOf, seenOf, pends as waiting, effectOf, tookOf}
+use Rattle.machine.specs.Effect.{cellOf, seenOf, blockedOf, effectOf, tookOf}
 use Rattle.machine.specs.Run.{takenOf}
 use Rattle.machine.specs.Step.{nextEffect}
 use Rattle.machine.proofs.Ten.{ten}
 use Rattle.machine.proofs.Take.{next-end, row-below, row-few, row-drainable, current-in, current-cell}
 use Rattle.machine.proofs.InRange.{next-goes, at-end-or}
 use Rattle.discipline.specs.declared.table.Held.{Held}
-use Rattle.discipline.specs.Table.{heldOf, owned, owns, others, isLocal, isDirty, holdingOf}
+use Rattle.discipline.specs.Table.{heldOf, isDirty, holdingOf}
 use Rattle.discipline.specs.Marks.{storedOf, marksOf}
 use Rattle.discipline.specs.Run.{Runnable}
 use Rattle.discipline.specs.Step.{nextHeld, nextElsewhere, nextMarks, checkedOf}
-use Rattle.discipline.specs.Meaning.{Against, at-end, fence-waits, swap-waits, buffer-full, load-local, load-dirty, store-others, swap-others, acquire-owned, acquire-pending, release-others, release-waits, stops-take, stops-drain}
+use Rattle.discipline.specs.Rules.{brokenOf}
 use Rattle.discipline.specs.Order.{stored, planBy}
-use Rattle.discipline.proofs.Meaning.{nothing-if-taken}
-use Rattle.discipline.proofs.Outcomes.{drain-taken, instruction-taken}
+use Rattle.discipline.proofs.Outcomes.{pending-there, neither, drain-taken, instruction-taken}
+use Rattle.discipline.proofs.Free.{waits-free, room-free, Loadable, of-own, of-shared, load-free, store-free, acquire-free, release-free, flag-stored}
 use Rattle.discipline.proofs.Maps.{upd, upd-id}
-use Rattle.discipline.proofs.Abstract.{Act, Table, Machine, Thread, thread, enter, with-thread, Open, drained, pends, dirtied, plan, Readable, own, shared, Takes, t-silent, t-load, t-store, t-fence, t-swap, t-acquire, t-release, Drains, t-drain}
-use Rattle.discipline.proofs.View.{Log, Local, noted, went, acted, program, registersOf, localOf, memoryMap, tableMap, threadOf, view}
+use Rattle.discipline.proofs.Abstract.{Table, Machine, thread, enter, with-thread, drained, pends, dirtied, plan, Readable, own, shared, Takes, t-silent, t-load, t-store, t-fence, t-swap, t-acquire, t-release, Drains, t-drain}
+use Rattle.discipline.proofs.View.{Log, Local, noted, went, acted, program, registersOf, localOf, memoryMap, tableMap, view}
 use Rattle.discipline.proofs.Viewed.{view-took, view-drained}
 use Rattle.discipline.proofs.Buffers.{oldest-first, forwarded-drained, nowhere-else}
 
@@ -74,65 +73,6 @@ with-same : (W : Machine Local) (t : ℕ) {l l′ : Local} {q q′ : List Pendin
 with-same W t {l′ = l′} {q = q} {q′ = q′} {d = d} {d′ = d′} {T = T} {T′ = T′} {m = m} a b c e f =
     ap (λ x. with-thread W t x q d T m) a ∙ ap (λ x. with-thread W t l′ x d T m) b ∙ ap (λ x. with-thread W t l′ q′ x T m) c
     ∙ ap (λ x. with-thread W t l′ q′ d′ x m) e ∙ ap (λ x. with-thread W t l′ q′ d′ T′ x) f
-
--- a cell that no other thread owns
-open-unless : (o t : ℕ) → ((not (eqb o 0) && not (eqb o (t + 1))) ≡ true → ⊥) → Open t o
-open-unless o t h j z = go (eqb o 0) refl (eqb o (t + 1)) refl h
-  where
-    go : (a : Bool) → eqb o 0 ≡ a → (b : Bool) → eqb o (t + 1) ≡ b → ((not a && not b) ≡ true → ⊥) → j ≡ t
-    go true ea b eb k = absurd (suc-ne-zero j (sym z ∙ eqb-true _ _ ea))
-    go false ea true eb k = let e = eqb-true o (t + 1) eb in omega arith
-    go false ea false eb k = absurd (k refl)
-
--- the flag after a store
-flag-after : (d : ℕ) (own local : Bool) → (not (eqb d 0) || not (own && local)) ≡ not (eqb (pick (own && local) d 1) 0)
-flag-after d true true = go (eqb d 0)
-  where
-    go : (b : Bool) → (not b || false) ≡ not b
-    go true = refl
-    go false = refl
-flag-after d true false = go (eqb d 0)
-  where
-    go : (b : Bool) → (not b || true) ≡ true
-    go true = refl
-    go false = refl
-flag-after d false local = go (eqb d 0)
-  where
-    go : (b : Bool) → (not b || true) ≡ true
-    go true = refl
-    go false = refl
-
-owned-by : (o : ℕ) {t : ℕ} → (eqb o (t + 1) ≡ false → ⊥) → o ≡ suc t
-owned-by o {t} h = go (eqb o (t + 1)) refl h
-  where
-    go : (b : Bool) → eqb o (t + 1) ≡ b → (b ≡ false → ⊥) → o ≡ suc t
-    go true e k = eqb-true o (t + 1) e ∙ add-one t
-    go false e k = absurd (k refl)
-
-unowned : (o : ℕ) → (not (eqb o 0) ≡ true → ⊥) → o ≡ 0
-unowned o h = go (eqb o 0) refl h
-  where
-    go : (b : Bool) → eqb o 0 ≡ b → (not b ≡ true → ⊥) → o ≡ 0
-    go true e k = eqb-true _ _ e
-    go false e k = absurd (k refl)
-
-not-true : (b : Bool) → (b ≡ true → ⊥) → b ≡ false
-not-true true h = absurd (h refl)
-not-true false h = refl
-
-no-count : (q : Queue) → (waiting q ≡ true → ⊥) → pending q ≡ []
-no-count q h = go (eqb (q .count) 0) refl h
-  where
-    go : (b : Bool) → eqb (q .count) 0 ≡ b → (not b ≡ true → ⊥) → pending q ≡ []
-    go true e k = ap (λ (n : ℕ). take n (q .entries)) (eqb-true (q .count) 0 e)
-    go false e k = absurd (k refl)
-
--- no reason stands against an instruction that is taken, nor is a buffer empty that drains
-nothing-against : (s : State) (t : ℕ) → t < 16 → checkedOf s (1 + t) .number ≡ 0 → (m : ℕ) → Against s t (nextOf s t) m → ⊥
-nothing-against s t h z m a = let e : 1 + t - 1 ≡ t = omega arith in nothing-if-taken s (1 + t) z m (stops-take (omega arith) (rw e a))
-
-pub pending-there : (s : State) (t : ℕ) → checkedOf s (17 + t) .number ≡ 0 → queueOf s t .count ≡ 0 → ⊥
-pending-there s t z c = let e : 17 + t - 17 ≡ t = omega arith in nothing-if-taken s (17 + t) z 23 (stops-drain (omega arith) (rw e c))
 
 -- the next instruction of row t, where its program goes on
 module _ {s : State} (g : Runnable s) {t : ℕ} (h : t < s .threads) (l : positionOf s t < countOf s t) where
@@ -173,6 +113,11 @@ module _ {s : State} (g : Runnable s) {t : ℕ} (h : t < s .threads) (l : positi
         ap (λ (f : ℕ → ℕ). record { owner = f; mark = upd (tableMap s .mark) c (eqb (sharingOf s c) LOCAL) }) (upd-id (tableMap s .owner) c refl)
         ∙ ap (λ (f : ℕ → Bool). record { owner = tableMap s .owner; mark = f }) (upd-id (tableMap s .mark) c refl)
 
+    -- a store leaves owner and mark
+    stored-table : enter (tableMap s) c (storedOf (nextHeld s t) t .owner) (eqb (storedOf (nextHeld s t) t .sharing) LOCAL) ≡ tableMap s
+    unfolding storedOf heldOf
+    stored-table = same-table
+
     abbrev eff : Action → Effect
     eff a = effectOf (seenOf s t i) q a
 
@@ -189,15 +134,10 @@ module _ {s : State} (g : Runnable s) {t : ℕ} (h : t < s .threads) (l : positi
     moved-on : (a : Action) (n : ℕ) → went lo a n r (registersOf s t r) (pos 0) ≡ went lo a n r (registerOf s t r) (pos 0)
     moved-on a n = ap (λ (x : ℤ). went lo a n r x (pos 0)) register-there
 
-    readable : (n : ℕ) → n ≡ c → ((m : ℕ) → Against s t (read n) m → ⊥) → Readable W t n
+    readable : (n : ℕ) → n ≡ c → Loadable t (nextHeld s t) → Readable W t n
     unfolding heldOf
-    readable n e free = rw e (go (eqb (ownerOf s c) (t + 1)) refl (eqb (sharingOf s c) LOCAL) refl (not (eqb (dirtyOf s t) 0)) refl)
-      where
-        go : (a : Bool) → eqb (ownerOf s c) (t + 1) ≡ a → (b : Bool) → eqb (sharingOf s c) LOCAL ≡ b → (d : Bool) → not (eqb (dirtyOf s t) 0) ≡ d → Readable W t c
-        go true ea b eb d ed = own (eqb-true (ownerOf s c) (t + 1) ea ∙ add-one t)
-        go false ea true eb d ed = absurd (free 30 (load-local ea eb))
-        go false ea false eb true ed = absurd (free 31 (load-dirty ea eb ed))
-        go false ea false eb false ed = shared eb ed
+    readable n e (of-own o) = rw e (own o)
+    readable n e (of-shared p d) = rw e (shared p d)
 
     few-entries : q .count ≤ length (q .entries)
     few-entries =
@@ -209,20 +149,17 @@ module _ {s : State} (g : Runnable s) {t : ℕ} (h : t < s .threads) (l : positi
     seen-by : (n : ℕ) → n ≡ c → drained (W .threads t .queue) (memoryMap s) n ≡ forwarded q n (memoryOf s c)
     seen-by n e = ap (λ (y : List Pending). drained y (memoryMap s) n) queue-there ∙ forwarded-drained q (memoryMap s) n few-entries ∙ ap (λ (k : ℕ). forwarded q n (memoryOf s k)) e
 
-    pushed-on : {n : ℕ} (x : ℤ) → n ≡ i .cell → (leb (s .depth) (q .count) ≡ true → ⊥) → W .threads t .queue ++ record { value = x; cell = n } ∷ [] ≡ pending (pushedOf q (record { value = x; cell = i .cell }))
-    pushed-on {n} x e k =
+    pushed-on : {n : ℕ} (x : ℤ) → n ≡ i .cell → q .count < s .depth → W .threads t .queue ++ record { value = x; cell = n } ∷ [] ≡ pending (pushedOf q (record { value = x; cell = i .cell }))
+    pushed-on {n} x e f =
         let d = g .inRange .depth in
         let m = g .shaped .entries t (row-below (g .inRange) h) in
-        let f = leb-false (s .depth) (q .count) (not-true _ k) in
         rw (queue-there, e) (sym (pending-pushed q (record { value = x; cell = i .cell }) (omega arith)))
 
-    flag-set : (n : ℕ) → n ≡ c → dirtied W t n (W .threads t .dirty) ≡ not (eqb (pick (eqb (ownerOf s c) (t + 1) && eqb (sharingOf s c) LOCAL) (dirtyOf s t) 1) 0)
-    flag-set n e = rw (e, add-one) (flag-after (dirtyOf s t) (eqb (ownerOf s c) (suc t)) (eqb (sharingOf s c) LOCAL))
+    flag-set : (n : ℕ) → n ≡ c → dirtied W t n (W .threads t .dirty) ≡ isDirty (storedOf (nextHeld s t) t)
+    unfolding heldOf
+    flag-set n e = sym (flag-stored t (nextHeld s t) ∙ rw (e, add-one) refl)
 
-    emptied : (waiting q ≡ true → ⊥) → W .threads t .queue ≡ []
-    emptied k = queue-there ∙ no-count q k
-
-    nowhere : (n : ℕ) → n ≡ i .cell → (nextElsewhere s t ≡ true → ⊥) → (j : ℕ) → j ≢ t → pends (W .threads j .queue) n ≡ false
+    nowhere : (n : ℕ) → n ≡ i .cell → nextElsewhere s t ≡ false → (j : ℕ) → j ≢ t → pends (W .threads j .queue) n ≡ false
     nowhere n e k j ne = go (ltb j (s .threads)) refl
       where
         go : (b : Bool) → ltb j (s .threads) ≡ b → pends (pick b (pending (queueOf s j)) []) n ≡ false
@@ -230,43 +167,45 @@ module _ {s : State} (g : Runnable s) {t : ℕ} (h : t < s .threads) (l : positi
             let u = ltb-true j (s .threads) z in
             let f = row-few (g .inRange) u in
             let m = g .shaped .entries j (row-below (g .inRange) u) in
-            nowhere-else (s .queues) t n (s .threads) (rw e (not-true _ k)) j u ne (omega arith)
+            nowhere-else (s .queues) t n (s .threads) (rw e k) j u ne (omega arith)
         go false z = refl
 
-    takes : (a : Action) → About a c (i .cell) → ((m : ℕ) → Against s t a m → ⊥) → Takes W t (acted lo r a) (result a)
-    unfolding effectOf marksOf storedOf seenOf heldOf
-    takes (read n) e free =
+    takes : (a : Action) → About a c (i .cell) → blockedOf (s .depth) q a ≡ 0 → brokenOf t (nextHeld s t) q (nextElsewhere s t) a ≡ 0 → Takes W t (acted lo r a) (result a)
+    unfolding effectOf marksOf seenOf heldOf blockedOf brokenOf
+    takes (read n) e y z =
         subst (Takes W t (acted lo r (read n)))
         (with-same W t (ap (λ (x : ℤ). went lo (read n) (positionOf s t + 1) r x x) (seen-by n e)) queue-there refl (sym same-table) (sym same-memory))
-        (t-load (readable n e free))
-    takes (store n x) e free =
+        (t-load (readable n e (load-free t (nextHeld s t) z)))
+    takes (store n x) e y z =
         subst (Takes W t (acted lo r (store n x)))
-        (with-same W t (moved-on (store n x) (positionOf s t + 1)) (pushed-on x (e .1) (λ b. free 22 (buffer-full b))) (flag-set n (e .0)) (sym same-table) (sym same-memory))
-        (t-store (open-unless (ownerOf s n) t (rw (e .0) (λ b. free 32 (store-others b)))))
-    takes fence e free =
+        (with-same W t (moved-on (store n x) (positionOf s t + 1)) (pushed-on x (e .1) (room-free (s .depth) q y)) (flag-set n (e .0)) (sym stored-table) (sym same-memory))
+        (t-store (rw (e .0) (store-free t (nextHeld s t) z)))
+    takes fence e y z =
         subst (Takes W t (acted lo r fence))
         (with-same W t (moved-on fence (positionOf s t + 1)) queue-there refl (sym same-table) (sym same-memory))
-        (t-fence (emptied (λ b. free 21 (fence-waits b))))
-    takes (swap n old x) e free =
+        (t-fence (queue-there ∙ waits-free q y))
+    takes (swap n old x) e y z =
         subst (Takes W t (acted lo r (swap n old x)))
         (with-same W t (ap (λ (k : ℕ). went lo (swap n old x) (positionOf s t + 1) r (memoryOf s k) (memoryOf s k)) e) queue-there refl (sym same-table)
         (ap (λ (k : ℕ). upd (memoryMap s) k (pick (eqZ (memoryOf s k) old) x (memoryOf s k))) e))
-        (t-swap (emptied (λ b. free 21 (swap-waits b))) (open-unless (ownerOf s n) t (rw e (λ b. free 32 (swap-others b)))))
-    takes (acquire n mark) e free =
+        (t-swap (queue-there ∙ waits-free q y) (rw e (store-free t (nextHeld s t) z)))
+    takes (acquire n mark) e y z =
+        let f = acquire-free t (nextHeld s t) (nextElsewhere s t) z in
         subst (Takes W t (acted lo r (acquire n mark)))
         (with-same W t (moved-on (acquire n mark) (positionOf s t + 1)) queue-there refl (ap (λ (k : ℕ). enter (tableMap s) k (suc t) (eqb mark LOCAL)) (e .0) ∙ ap (λ (o : ℕ). enter (tableMap s) c o (eqb mark LOCAL)) (sym (add-one t))) (sym same-memory))
-        (t-acquire (rw (e .0) (unowned (ownerOf s c) (λ b. free 33 (acquire-owned b)))) (nowhere n (e .1) (λ b. free 34 (acquire-pending b))))
-    takes (release n) e free =
+        (t-acquire (rw (e .0) (f .0)) (nowhere n (e .1) (f .1)))
+    takes (release n) e y z =
+        let f = release-free t (nextHeld s t) q z in
         subst (Takes W t (acted lo r (release n)))
         (with-same W t (moved-on (release n) (positionOf s t + 1)) queue-there refl (ap (λ (k : ℕ). enter (tableMap s) k 0 false) e) (sym same-memory))
-        (t-release (rw e (owned-by (ownerOf s c) (λ b. free 35 (release-others b)))) (emptied (λ b. free 36 (release-waits b))))
-    takes (silent n x) e free =
+        (t-release (rw e (f .0)) (queue-there ∙ f .1))
+    takes (silent n x) e y z =
         subst (Takes W t (acted lo r (silent n x))) (with-same W t refl queue-there refl (sym same-table) (sym same-memory)) t-silent
-    takes end e free = absurd (free 20 at-end)
+    takes end e y z = absurd (omega arith)
 
     -- what is planned at it goes by the flag after it
     pub plan-same : (a : Action) → About a c (i .cell) → (k : List ℕ) → plan (acted lo r a) (λ n. dirtied W t n (W .threads t .dirty)) k ≡ planBy a (isDirty (mk a)) k
-    unfolding marksOf storedOf heldOf
+    unfolding marksOf
     plan-same (read n) e k = refl
     plan-same (store n x) e k = ap (λ (b : Bool). stored b k) (flag-set n (e .0))
     plan-same fence e k = refl
@@ -278,17 +217,19 @@ module _ {s : State} (g : Runnable s) {t : ℕ} (h : t < s .threads) (l : positi
 
     pub instruction-takes : checkedOf s (1 + t) .number ≡ 0 → Takes W t (program (s .code) (s .counts) lo) (view (checkedOf s (1 + t) .state) (upd logs t (noted (logs t) (positionOf s t) (nextOf s t) (checkedOf s (1 + t) .value))))
     instruction-takes z =
-        let n = g .inRange .threads in
+        let u = g .inRange .threads in
         let b = g .inRange .cells in
+        let n = neither s t (omega arith) z in
         let k = current-in (g .inRange) h l in
         let w = current-cell (g .inRange) h l in
         let e : checkedOf s (1 + t) ≡ takenOf (holdingOf (tookOf s t i (nextEffect s t)) t i (nextMarks s t)) (nextEffect s t .value) = instruction-taken s t (omega arith) z in
         let v = view-took (g .shaped) (row-below (g .inRange) h) i (nextEffect s t) (k .register) (nextMarks s t) h logs (noted (logs t) (positionOf s t) (nextOf s t) (nextEffect s t .value)) (omega arith) in
-        rw (program-next (logs t), e) (subst (Takes W t (acted lo r (nextOf s t))) (sym v) (takes (nextOf s t) (about (g .inRange) h l) (nothing-against s t (omega arith) z)))
+        rw (program-next (logs t), e) (subst (Takes W t (acted lo r (nextOf s t))) (sym v) (takes (nextOf s t) (about (g .inRange) h l) (n .0) (n .1)))
 
 -- a program goes on where its instruction is taken
 pub taken-goes : (s : State) (t : ℕ) → t < 16 → checkedOf s (1 + t) .number ≡ 0 → positionOf s t < countOf s t
-taken-goes s t h z = at-end-or s t (λ k. k) (λ k. absurd (nothing-against s t h z 20 (rw (next-end s t k) at-end)))
+unfolding blockedOf
+taken-goes s t h z = at-end-or s t (λ k. k) (λ k. let e = rw (next-end s t k) at (neither s t h z .0) in absurd (omega arith))
 
 -- the oldest pending store drains
 module _ {s : State} (g : Runnable s) {t : ℕ} (h : t < s .threads) (logs : ℕ → Log) where

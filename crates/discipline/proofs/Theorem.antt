@@ -1,30 +1,27 @@
 -- Point 3 from the bytes of a case and the answer of its check.
-use Prim.Native.Nat.{ℕ, zero, suc, _<_, _≤_}
+use Prim.Native.Nat.{ℕ, zero, suc}
 use mathlib.Core.Bool.{Bool, true, false}
 use mathlib.Core.Path.{_≡_, refl, sym, _∙_, ap}
-use mathlib.Core.List.{List, [], _∷_, _++_}
+use mathlib.Core.List.{List, _++_}
 use native.Mathlib.Omega.{arith}
-use lib.ListN.{length, getD, take, drop, replicate, length-take}
+use lib.ListN.{getD, take, drop, replicate, length-take}
 use lib.Seq.{take-at}
 use lib.Dec.{eqb}
 use lib.IntN.{ℤ}
-use borrow.Author.Tests.{eqb-true, eqb-false, ltb-false}
-use Rattle.reader.specs.declared.state.Queue.{Queue}
-use Rattle.reader.specs.declared.state.State.{State}
+use borrow.Author.Tests.{eqb-true, eqb-false}
 use Rattle.reader.specs.declared.Reading.{Reading}
 use Rattle.reader.specs.Limits.{THREADS}
-use Rattle.reader.specs.State.{noQueue, outsideQueue, queueOf}
+use Rattle.reader.specs.State.{noQueue, outsideQueue}
 use Rattle.reader.specs.Case.{readOf}
 use Rattle.reader.specs.Rules.{pick}
 use Rattle.reader.specs.Range.{WellFormed}
 use Rattle.reader.proofs.Accepted.{accepted}
 use Rattle.machine.specs.Run.{valuesOf}
 use Rattle.discipline.specs.declared.check.Answer.{Answer}
-use Rattle.discipline.specs.Run.{Runnable, Items}
 use Rattle.discipline.specs.Step.{checkedOf}
 use Rattle.discipline.specs.Check.{answer, ranOf, scheduleOf, stoppedThread, tooShort, judgedBy, answerOf, valuesAfter, memoryAfter, Checks}
 use Rattle.discipline.specs.Order.{orderOf}
-use Rattle.discipline.specs.OneMemory.{aloneOf, Emptied, startOf, itemsOf, endOf, OneMemory, PointThree, SomeOrder}
+use Rattle.discipline.specs.OneMemory.{Emptied, startOf, itemsOf, endOf, PointThree, SomeOrder}
 use Rattle.discipline.proofs.Checked.{runnable-read, schedule-items}
 use Rattle.discipline.proofs.Point3.{alike, ended-runnable}
 

@@ -1,11 +1,11 @@
 -- What a step of the definitions does to the view of a state: to one thread, to memory, to the table.
-use Prim.Native.Nat.{ℕ, _+_, _-_, _<_, _≤_}
+use Prim.Native.Nat.{ℕ, _-_, _<_, _≤_}
 use mathlib.Core.Bool.{Bool, true, false, not}
 use mathlib.Core.Logic.{_≢_}
 use mathlib.Core.Path.{_≡_, refl, sym, _∙_, ap, fun-ext}
-use mathlib.Core.List.{List, [], _∷_}
+use mathlib.Core.List.{List, []}
 use native.Mathlib.Omega.{arith}
-use lib.ListN.{getD, drop, length}
+use lib.ListN.{drop}
 use lib.Seq.{getD-set-other}
 use lib.Dec.{eqb, ltb}
 use lib.IntN.{ℤ, pos}
@@ -15,7 +15,7 @@ use Rattle.reader.specs.declared.state.Queue.{Queue}
 use Rattle.reader.specs.declared.state.Instruction.{Instruction}
 use Rattle.reader.specs.declared.state.State.{State}
 use Rattle.reader.specs.Limits.{THREADS, CELLS, REGISTERS, DEPTH}
-use Rattle.reader.specs.State.{queueOf, positionOf, dirtyOf, registerOf, registerPlace, ownerOf, sharingOf}
+use Rattle.reader.specs.State.{queueOf, dirtyOf, registerOf, registerPlace, ownerOf, sharingOf}
 use Rattle.reader.specs.Queue.{pending}
 use Rattle.reader.specs.Drain.{oldestOf, drainedOf}
 use Rattle.reader.specs.Rules.{pick}
@@ -24,7 +24,7 @@ use Rattle.machine.specs.declared.effect.Effect.{Effect}
 use Rattle.machine.specs.Action.{LOCAL}
 use Rattle.machine.specs.Buffer.{afterOf}
 use Rattle.machine.specs.Effect.{cellOf, tookOf}
-use Rattle.machine.proofs.Frame.{took-queue-other, took-position-other, took-register-other, drained-queue-other, drained-queue, drained-pending, took-queue, took-position, took-register}
+use Rattle.machine.proofs.Frame.{took-queue-other, took-position-other, took-register-other, drained-queue-other, drained-pending, took-queue, took-position, took-register}
 use Rattle.discipline.specs.declared.table.Held.{Held}
 use Rattle.discipline.specs.Table.{holdingOf}
 use Rattle.machine.proofs.Shape.{shaped-took}
