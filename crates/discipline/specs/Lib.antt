@@ -10,4 +10,6 @@ pub mod Meaning
 pub mod Fence
 pub mod Order
 pub mod OneMemory
+pub mod Bytes
 pub mod Runs
+pub mod Orders

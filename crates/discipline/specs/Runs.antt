@@ -1,5 +1,5 @@
 -- R1 to R12 of the description, as one list with one proved claim that the definitions yield them.
-use Prim.Native.Nat.{ℕ, _+_, _-_, _/_, _%_}
+use Prim.Native.Nat.{ℕ}
 use mathlib.Core.List.{List, [], _∷_, _++_, map}
 use mathlib.Core.Path.{_≡_, refl}
 use lib.ListN.{length, drop, replicate}
@@ -24,67 +24,8 @@ use Rattle.discipline.specs.Elsewhere.{holdsOf, elsewhereOf}
 use Rattle.discipline.specs.Rules.{loadBreaks, storeBreaks, acquireBreaks, releaseBreaks, brokenOf}
 use Rattle.discipline.specs.Marks.{storedOf, marksOf}
 use Rattle.discipline.specs.Step.{checkedTake, checkedOf}
+use Rattle.discipline.specs.Bytes.{word, minusForty, largest, cell, free, LOAD, STORE, FENCE, ACQUIRE, RELEASE, BRANCH, ADD, caseOf}
 use Rattle.discipline.specs.Check.{answer, ranOf, judgedBy, answerOf, valuesAfter, memoryAfter}
-
--- the bytes of a case, from its parts
-abbrev word : ℕ → List ℕ
-word n = 0 ∷ 0 ∷ 0 ∷ n ∷ []
-
-abbrev minusForty : List ℕ
-minusForty = 255 ∷ 255 ∷ 255 ∷ 216 ∷ []
-
-abbrev largest : List ℕ
-largest = 127 ∷ 255 ∷ 255 ∷ 255 ∷ []
-
-abbrev cell : ℕ → ℕ → ℕ → List ℕ
-cell value owner sharing = word value ++ (owner ∷ sharing ∷ [])
-
--- "cells start unowned, shared and 0 unless said"
-abbrev free : List ℕ
-free = cell 0 0 1
-
-abbrev instruction : ℕ → ℕ → ℕ → List ℕ → List ℕ
-instruction operation c register value = operation ∷ c ∷ register ∷ value
-
-abbrev LOAD : ℕ → List ℕ
-LOAD c = instruction 1 c 0 (word 0)
-
-abbrev STORE : ℕ → List ℕ → List ℕ
-STORE c value = instruction 2 c 0 value
-
-abbrev FENCE : List ℕ
-FENCE = instruction 4 0 0 (word 0)
-
-abbrev ACQUIRE : ℕ → List ℕ
-ACQUIRE c = instruction 6 c 0 (word 0)
-
-abbrev RELEASE : ℕ → List ℕ
-RELEASE c = instruction 8 c 0 (word 0)
-
-abbrev BRANCH : ℕ → List ℕ → List ℕ
-BRANCH target value = instruction 9 target 0 value
-
-abbrev ADD : List ℕ → List ℕ
-ADD value = instruction 10 0 0 value
-
-abbrev joined : List (List ℕ) → List ℕ
-joined [] = []
-joined (x ∷ xs) = x ++ joined xs
-
-abbrev count : {A : Type 0} → List A → ℕ
-count xs = length xs
-
-abbrev programs : List (List (List ℕ)) → List ℕ
-programs [] = []
-programs (p ∷ ps) = (count p ∷ joined p) ++ programs ps
-
-abbrev framed : List ℕ → List ℕ
-framed body = let n = length body + 3 in 1 ∷ n / 256 ∷ n % 256 ∷ body
-
--- depth, cells, one program for each thread, schedule
-abbrev caseOf : ℕ → List (List ℕ) → List (List (List ℕ)) → List ℕ → List ℕ
-caseOf depth cells ps schedule =
-    framed ((count ps ∷ count cells ∷ depth ∷ []) ++ joined cells ++ programs ps ++ (count schedule / 256 ∷ count schedule % 256 ∷ schedule))
 
 -- a case, its answer, its values and its memory
 pub record Run : Type 0 where
