@@ -1,6 +1,5 @@
 -- What a run keeps of its states: in range, every array as long as its type says.
 use Prim.Native.Nat.{ℕ, _<_, _≤_}
-use mathlib.Core.Bool.{_&&_}
 use mathlib.Core.Path.{_≡_, refl}
 use native.Mathlib.Omega.{arith}
 use native.Mathlib.Decide.{ℕ-discrete}
@@ -9,7 +8,6 @@ use Rattle.reader.specs.declared.state.Instruction.{Instruction}
 use Rattle.reader.specs.declared.state.State.{State}
 use Rattle.reader.specs.State.{queueOf, positionOf, countOf}
 use Rattle.reader.specs.Drain.{drainedOf}
-use Rattle.reader.specs.Rules.{pick}
 use Rattle.reader.specs.Range.{CellIn}
 use Rattle.machine.specs.Action.{Action, actionOf, currentOf, nextOf}
 use Rattle.machine.specs.Effect.{cellOf, blockedOf, tookOf}
@@ -20,7 +18,7 @@ use Rattle.machine.proofs.Kept.{in-drained}
 use Rattle.machine.proofs.InRange.{took-in, next-goes}
 use Rattle.machine.proofs.Shape.{shaped-drained, shaped-took}
 use Rattle.discipline.specs.declared.table.Held.{Held}
-use Rattle.discipline.specs.Table.{heldOf, owns, isLocal, acquired, released, flagged, holdingOf}
+use Rattle.discipline.specs.Table.{heldOf, acquired, released, flagged, holdingOf}
 use Rattle.discipline.specs.Marks.{storedOf, marksOf}
 use Rattle.discipline.specs.Run.{Runnable}
 use Rattle.discipline.specs.Step.{nextHeld, nextMarks}
@@ -94,7 +92,7 @@ module _ {threads : ℕ} (h : Held) where
 
   marks-stored : (t : ℕ) → HeldIn threads h → HeldIn threads (storedOf h t)
   unfolding storedOf
-  marks-stored t k = marks-flagged (pick (owns h t && isLocal h) (h .dirty) 1) k
+  marks-stored t k = marks-flagged (storedOf h t .dirty) k
 
   marks-acquired : {t mark : ℕ} → t < threads → mark ≤ 1 → HeldIn threads (acquired h t mark)
   marks-acquired l m = record { owner = omega arith; sharing = m; unowned = λ z. absurd (omega arith) }
