@@ -1,4 +1,4 @@
-pub mod Shift
+pub mod Fill
 pub mod Row
 pub mod Tests
 pub mod Each

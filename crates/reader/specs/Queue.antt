@@ -4,7 +4,9 @@ use mathlib.Core.List.{List, _∷_, _++_}
 use lib.ListN.{take, drop, set}
 use Rattle.reader.specs.declared.state.Pending.{Pending}
 use Rattle.reader.specs.declared.state.Queue.{Queue}
+use lib.Dec.{eqb, ltb}
 use Rattle.reader.specs.State.{noPending}
+use Rattle.reader.specs.Rules.{pick}
 
 -- the pending stores, oldest first
 abbrev pub pending : Queue → List Pending
@@ -21,3 +23,7 @@ poppedOf q = record { entries = shifted (q .entries) (q .count - 1); count = q .
 -- "STORE appends to the own buffer."
 abbrev pub pushedOf : Queue → Pending → Queue
 pushedOf q e = record { entries = set (q .entries) (q .count) e; count = q .count + 1 }
+
+-- what a place of a row gets by a pop: what stood behind it, or nothing where the newest stood, or what stands there
+abbrev pub movedUp : Pending → Pending → ℕ → ℕ → Pending
+movedUp here behind j last = pick (ltb j last) behind (pick (eqb j last) noPending here)

@@ -2,7 +2,8 @@
 ghost use mathlib.Core.Path.{_≡_};
 ghost use Prim.Native.Nat.{_<_, _≤_};
 ghost use Rattle.reader.specs.Limits.{DEPTH};
-ghost use Rattle.reader.specs.Queue.{poppedOf, pushedOf};
+ghost use Rattle.reader.specs.Queue.{movedUp, poppedOf, pushedOf};
+ghost use Rattle.reader.specs.Rules.{pick};
 ghost use Rattle.reader.specs.State.{freshOf};
 ghost use Rattle.reader.specs.Drain.{Drainable, drainedOf};
 
@@ -47,21 +48,49 @@ pub struct State {
     pub sharing: [u8; State::CELLS],
 }
 
+fn chosen(yes: bool, a: Pending, b: Pending) -> Pending
+    ensures { λ r. ⌜ r ≡ pick yes a b ⌝ }
+{
+    if yes {
+        return a;
+    }
+    b
+}
+
+// What stands at place j once the oldest entry is gone and the newest stood at place `last`.
+fn moved_up(here: Pending, behind: Pending, j: usize, last: usize) -> Pending
+    ensures { λ r. ⌜ r ≡ movedUp here behind j last ⌝ }
+{
+    if j < last {
+        return behind;
+    }
+    if j == last {
+        return Pending { value: 0, cell: 0 };
+    }
+    here
+}
+
+// A move writes every place of the row, and chooses what: a loop of fixed length over whole entries stays in registers, where one store at a
+// place known only at run time would send the whole row through memory and back.
 impl Queue {
     // The row without its oldest entry: later ones moved up, the vacated place zeroed.
     pub fn popped(self) -> Queue
         requires { ⌜ (0 < self .count) × (self .count ≤ DEPTH) ⌝ }
         ensures { λ r. ⌜ r ≡ poppedOf self ⌝ }
     {
+        let last = self.count - 1;
         let mut q = self;
-        let last = q.count - 1;
         let mut j = 0;
-        while j < last {
-            let e = q.entries[j + 1];
+        while j < State::DEPTH - 1 {
+            let here = self.entries[j];
+            let behind = self.entries[j + 1];
+            let e = moved_up(here, behind, j, last);
             q.entries[j] = e;
             j += 1;
         }
-        q.entries[last] = Pending { value: 0, cell: 0 };
+        let here = self.entries[j];
+        let e = moved_up(here, here, j, last);
+        q.entries[j] = e;
         q.count = last;
         q
     }
@@ -71,9 +100,15 @@ impl Queue {
         requires { ⌜ self .count < DEPTH ⌝ }
         ensures { λ r. ⌜ r ≡ pushedOf self e ⌝ }
     {
+        let n = self.count;
         let mut q = self;
-        let n = q.count;
-        q.entries[n] = e;
+        let mut j = 0;
+        while j < State::DEPTH {
+            let here = self.entries[j];
+            let x = chosen(j == n, e, here);
+            q.entries[j] = x;
+            j += 1;
+        }
         q.count = n + 1;
         q
     }
