@@ -24,7 +24,7 @@ use Rattle.machine.proofs.Take.{drain-row, take-row, room}
 use Rattle.machine.proofs.Runs.{Going}
 use Rattle.discipline.specs.declared.table.Held.{Held}
 use Rattle.discipline.specs.declared.decide.Decision.{Decision}
-use Rattle.discipline.specs.Table.{holdingOf}
+use Rattle.discipline.specs.Table.{flagsWith, ownersWith, sharingWith, holdingOf}
 use Rattle.discipline.specs.Run.{Runnable}
 use Rattle.discipline.specs.Step.{checkedTake, checkedOf}
 use Rattle.discipline.specs.Decide.{decidedOf}
@@ -78,6 +78,11 @@ module _ {P : State → Type 0} {m₀ : State} {xs : List ℕ} {vs₀ : List ℤ
   unfolding drainedOf
   drained-placed ew er f = rw (ew, er) f
 
-  pub took-placed : (i : Instruction) (e : Effect) (h : Held) {c r : ℕ} {word content pushed value : ℤ} {row : Queue} → c ≡ cellOf i → r ≡ registerPlace t (i .register) → word ≡ e .word → content ≡ e .content → value ≡ e .value → pushed ≡ e .pushed → row ≡ afterOf (queueOf s t) (e .pushes) (record { value = pushed; cell = i .cell }) → Going checkedOf P m₀ xs vs₀ (holdingOf (tookOf s t i e) t i h) n (set vs k (e .value)) → Going checkedOf P m₀ xs vs₀ (record { threads = s .threads; cells = s .cells; depth = s .depth; positions = set (s .positions) t (e .next); counts = s .counts; queues = set (s .queues) t row; code = s .code; registers = set (s .registers) r content; memory = set (s .memory) c word; dirty = set (s .dirty) t (h .dirty); owners = set (s .owners) c (h .owner); sharing = set (s .sharing) c (h .sharing) }) n (set vs k value)
+  pub took-placed : (i : Instruction) (e : Effect) (h : Held) {c r : ℕ} {word content pushed value : ℤ} {row : Queue} {dirty owners sharing : List ℕ} →
+      c ≡ cellOf i → r ≡ registerPlace t (i .register) → word ≡ e .word → content ≡ e .content → value ≡ e .value → pushed ≡ e .pushed →
+      row ≡ afterOf (queueOf s t) (e .pushes) (record { value = pushed; cell = i .cell }) →
+      dirty ≡ flagsWith (s .dirty) t (h .dirty) → owners ≡ ownersWith (s .owners) c (h .owner) → sharing ≡ sharingWith (s .sharing) c (h .sharing) →
+      Going checkedOf P m₀ xs vs₀ (holdingOf (tookOf s t i e) t i h) n (set vs k (e .value)) →
+      Going checkedOf P m₀ xs vs₀ (record { threads = s .threads; cells = s .cells; depth = s .depth; positions = set (s .positions) t (e .next); counts = s .counts; queues = set (s .queues) t row; code = s .code; registers = set (s .registers) r content; memory = set (s .memory) c word; dirty = dirty; owners = owners; sharing = sharing }) n (set vs k value)
   unfolding holdingOf tookOf
-  took-placed i e h ec er ew et ev ep eq f = rw (ec, er, ew, et, ev, eq, ep) f
+  took-placed i e h ec er ew et ev ep eq ed eo es f = rw (ed, eo, es, ec, er, ew, et, ev, eq, ep) f

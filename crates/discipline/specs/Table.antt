@@ -47,6 +47,16 @@ module _ (h : Held) where
   abbrev pub flagged : ℕ → Held
   flagged flag = record { dirty = flag; owner = h .owner; sharing = h .sharing }
 
+-- the lists with another flag of row t, another owner and another sharing mark of cell c
+abbrev pub flagsWith : List ℕ → ℕ → ℕ → List ℕ
+flagsWith dirty t flag = set dirty t flag
+
+abbrev pub ownersWith : List ℕ → ℕ → ℕ → List ℕ
+ownersWith owners c owner = set owners c owner
+
+abbrev pub sharingWith : List ℕ → ℕ → ℕ → List ℕ
+sharingWith sharing c mark = set sharing c mark
+
 -- the state that holds so much of the cell of instruction i and of the flag of row t
 unfoldable pub holdingOf : State → ℕ → Instruction → Held → State
 holdingOf s t i h = record {
@@ -59,7 +69,7 @@ holdingOf s t i h = record {
   code = s .code;
   registers = s .registers;
   memory = s .memory;
-  dirty = set (s .dirty) t (h .dirty);
-  owners = set (s .owners) (cellOf i) (h .owner);
-  sharing = set (s .sharing) (cellOf i) (h .sharing);
+  dirty = flagsWith (s .dirty) t (h .dirty);
+  owners = ownersWith (s .owners) (cellOf i) (h .owner);
+  sharing = sharingWith (s .sharing) (cellOf i) (h .sharing);
 }

@@ -6,6 +6,7 @@ ghost use Rattle.discipline.specs.Step.{checkedOf};
 ghost use Rattle.discipline.specs.Run.{Items, Runnable};
 use crate::decide;
 use crate::elsewhere;
+use crate::table;
 use machine::buffer;
 use machine::effect;
 use machine::outcome::Ran;
@@ -96,9 +97,9 @@ pub fn ran(m: State, items: &[u8], values: &mut [i32]) -> Ran
         s.memory[c] = word;
         s.registers[r] = content;
         s.positions[t] = e.next;
-        s.dirty[t] = h.dirty;
-        s.owners[c] = h.owner;
-        s.sharing[c] = h.sharing;
+        table::put_flag(&mut s.dirty, t, h);
+        table::put_owner(&mut s.owners, c, h);
+        table::put_sharing(&mut s.sharing, c, h);
         values[k] = value;
         k += 1;
     }
