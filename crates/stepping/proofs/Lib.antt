@@ -1,0 +1,5 @@
+pub mod Tests
+pub mod All
+pub mod Exact
+pub mod Shape
+pub mod Coincide
