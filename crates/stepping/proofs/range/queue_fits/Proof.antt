@@ -1,10 +1,9 @@
 -- The pending stores passed so far are to cells.
 use Prim.Native.Nat.{_≤_, _-_}
-use mathlib.Core.Path.{_≡_, refl, sym, ap, _∙_}
+use mathlib.Core.Path.{_≡_, refl, _∙_}
 use native.Mathlib.Omega.{arith}
 use borrow.Author.Needs.{needs}
 use borrow.Author.Tests.{lt-leb, le-leb, le-ltb, lt-ltb}
-use Rattle.reader.specs.Limits.{DEPTH}
 use Rattle.stepping.specs.Range.{allBelow, pendingFits, queueFits}
 use Rattle.stepping.proofs.All.{all-none, all-fails, all-passes}
 use Rattle.stepping.proofs.range.queue_fits.Statement.{statement}
