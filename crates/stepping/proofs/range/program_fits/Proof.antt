@@ -1,6 +1,6 @@
 -- The instructions passed so far are as a case could hold them.
 use Rattle.stepping.proofs.Tests.{short, long}
-use Prim.Native.Nat.{_≤_, _-_}
+use Prim.Native.Nat.{_≤_}
 use mathlib.Core.Path.{_≡_, refl, _∙_}
 use native.Mathlib.Omega.{arith}
 use borrow.Author.Needs.{needs}
