@@ -1,18 +1,17 @@
 -- Stepping through a schedule is the run of it, from every state in range and for all items that are right for it.
-use Prim.Native.Nat.{ℕ, zero, suc, _+_, _<_}
+use Prim.Native.Nat.{ℕ, suc, _+_}
 use mathlib.Core.Bool.{Bool, true, false}
 use mathlib.Core.Path.{_≡_, refl, ap, _∙_}
 use mathlib.Core.List.{List, [], _∷_}
 use native.Mathlib.Omega.{arith}
 use lib.Dec.{eqb}
 use lib.IntN.{ℤ}
-use lib.ListN.{length, getD}
 use borrow.Author.Tests.{eqb-true, eqb-false}
 use Rattle.reader.specs.declared.state.State.{State}
 use Rattle.reader.specs.Rules.{pick, itemFits}
 use Rattle.machine.specs.declared.outcome.Outcome.{Outcome}
 use Rattle.machine.specs.declared.outcome.Ran.{Ran}
-use Rattle.machine.specs.Run.{refusedOf, runOf, valuesOf}
+use Rattle.machine.specs.Run.{runOf, valuesOf}
 use Rattle.discipline.specs.Check.{answer, threadOf}
 use Rattle.discipline.specs.Run.{Runnable, Items}
 use Rattle.discipline.specs.Step.{checkedOf}

@@ -1,6 +1,6 @@
 -- From bytes: stepping through the schedule of a case that is well-formed gives what the check of the whole case promises.
 use Prim.Native.Nat.{ℕ, _+_, _≤_}
-use mathlib.Core.Path.{_≡_, refl, sym, _∙_}
+use mathlib.Core.Path.{_≡_, refl}
 use mathlib.Core.List.{List, _++_}
 use native.Mathlib.Omega.{arith}
 use lib.Dec.{eqb}
@@ -9,15 +9,14 @@ use lib.Seq.{getD-drop}
 use lib.IntN.{ℤ, pos}
 use Rattle.reader.specs.Bytes.{byte}
 use Rattle.reader.specs.Rules.{pick}
-use Rattle.reader.specs.Range.{WellFormed}
 use Rattle.reader.specs.Case.{readOf}
 use Rattle.reader.proofs.Accepted.{accepted}
 use Rattle.machine.specs.declared.outcome.Ran.{Ran}
-use Rattle.machine.specs.Run.{runOf, Answers}
+use Rattle.machine.specs.Run.{Answers}
 use Rattle.discipline.specs.Step.{checkedOf}
 use Rattle.discipline.specs.Check.{threadOf, scheduleOf, Checks}
 use Rattle.discipline.proofs.Checked.{runnable-read, items-read, checks-ran}
-use Rattle.stepping.specs.Follow.{follow, followCase, AsRun}
+use Rattle.stepping.specs.Follow.{followCase, AsRun}
 use Rattle.stepping.proofs.Follow.{followed}
 
 -- a case that is not refused is well-formed, so its schedule can be stepped through

@@ -1,5 +1,5 @@
 -- What an item that is taken leaves: a state that can be stepped on, and what it read in the instruction's register.
-use Prim.Native.Nat.{ℕ, _-_, _<_, _≤_}
+use Prim.Native.Nat.{ℕ, _-_, _<_}
 use mathlib.Core.Bool.{Bool, true, false, _||_}
 use mathlib.Core.Path.{_≡_, refl, sym, ap, _∙_}
 use native.Mathlib.Omega.{arith}
@@ -11,7 +11,6 @@ use Rattle.reader.specs.State.{queueOf, positionOf, countOf, registerOf}
 use Rattle.reader.specs.Drain.{drainedOf}
 use Rattle.reader.specs.Rules.{pick, itemFits}
 use Rattle.machine.specs.declared.outcome.Outcome.{Outcome}
-use Rattle.machine.specs.declared.effect.Effect.{Effect}
 use Rattle.machine.specs.Action.{Action, actionOf, currentOf, nextOf}
 use Rattle.machine.specs.Effect.{seenOf, guard, blockedOf, effectOf, tookOf}
 use Rattle.machine.specs.Run.{takenOf, unless}
