@@ -3,6 +3,7 @@ pub mod All
 pub mod Exact
 pub mod Shape
 pub mod Coincide
+pub mod Said
 pub mod Taken
 pub mod Follow
 pub mod FromBytes

@@ -1,3 +1,4 @@
 pub mod Range
 pub mod Step
+pub mod Said
 pub mod Follow
