@@ -377,6 +377,23 @@ static void step_exact(void)
     expect_refused(&s, 1, 20, 1, "the end of a program");
 }
 
+/* A state that no run leads to is stepped as any other: thread 2's store pends to a cell that thread 1 owns. */
+static void step_unreachable(void)
+{
+    State s, expected;
+    start(&runs[R2], &s, 0xff);
+    s.owners[0] = 1;
+    s.sharing[0] = 0;
+    s.queues[1].count = 1;
+    s.queues[1].entries[0] = (struct frascolimba_pending){-40, 0};
+    expected = s;
+    expected.memory[0] = -40;
+    expected.queues[1].count = 0;
+    expected.queues[1].entries[0] = (struct frascolimba_pending){0, 0};
+    expect(is(frascolimba_step(&s, 18), 0, 1, 0), "answer", "a state that no run leads to");
+    expect(memcmp(&s, &expected, sizeof s) == 0, "state", "a state that no run leads to");
+}
+
 /* Every value of the item byte, on a state of two threads. */
 static void step_every_byte(void)
 {
@@ -479,6 +496,7 @@ int main(void)
     check_damaged();
     step_r11_register();
     step_exact();
+    step_unreachable();
     step_every_byte();
     step_out_of_range();
     step_filled();
