@@ -4,6 +4,8 @@ pub mod Exact
 pub mod Shape
 pub mod Coincide
 pub mod Said
+pub mod Judged
 pub mod Taken
+pub mod Untouched
 pub mod Follow
 pub mod FromBytes

@@ -28,12 +28,12 @@ use Rattle.discipline.proofs.Sound.{drained-sound, took-sound}
 use Rattle.stepping.specs.Follow.{reads, shownOf}
 
 -- an instruction that is taken: its program goes on, neither the machine nor a rule holds it back
-record Free (s : State) (t : ℕ) : Type 0 where
-  goes : positionOf s t < countOf s t
-  unblocked : blockedOf (s .depth) (queueOf s t) (nextOf s t) ≡ 0
-  unbroken : nextBroken s t ≡ 0
+pub record Free (s : State) (t : ℕ) : Type 0 where
+  pub goes : positionOf s t < countOf s t
+  pub unblocked : blockedOf (s .depth) (queueOf s t) (nextOf s t) ≡ 0
+  pub unbroken : nextBroken s t ≡ 0
 
-free : (s : State) (t : ℕ) → checkedTake s t .number ≡ 0 → Free s t
+pub free : (s : State) (t : ℕ) → checkedTake s t .number ≡ 0 → Free s t
 free s t z =
     let b = judged-first _ _ (sym (take-number s t) ∙ z) in
     at-end-or s t
