@@ -19,11 +19,6 @@ typedef struct frascolimba_state State;
 
 enum { ITEMS = FRASCOLIMBA_ITEMS, CELLS = FRASCOLIMBA_CELLS, BEFORE = 0x5eed5eed };
 
-_Static_assert(sizeof(Answer) == 16, "an answer has no padding");
-_Static_assert(sizeof(struct frascolimba_queue) == 72, "a queue has no padding");
-_Static_assert(sizeof(struct frascolimba_instruction) == 8, "an instruction has no padding");
-_Static_assert(sizeof(State) == 1672, "a state has no padding");
-
 /* Counting */
 
 static size_t passed;

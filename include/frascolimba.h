@@ -74,6 +74,13 @@ struct frascolimba_state {
     uint8_t sharing[FRASCOLIMBA_CELLS];               /* 1 shared, 0 local; an unowned cell is shared */
 };
 
+/* The layout that the library was built for: 64-bit sizes, and no padding. */
+#if defined(__cplusplus)
+static_assert(sizeof(struct frascolimba_answer) == 16 && sizeof(struct frascolimba_state) == 1672, "frascolimba: another layout");
+#elif __STDC_VERSION__ >= 201112L
+_Static_assert(sizeof(struct frascolimba_answer) == 16 && sizeof(struct frascolimba_state) == 1672, "frascolimba: another layout");
+#endif
+
 /*
  * The answer of any `length` bytes at `bytes`. For 0 and from 20 up, `values` begins with a value for each item taken and `memory` with the cells'
  * memory; the later elements of both stay. For 1 to 9 nothing is written. A null pointer is fine with length 0. The three may not overlap.

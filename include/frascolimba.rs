@@ -62,6 +62,9 @@ pub struct State {
     pub sharing: [u8; CELLS],
 }
 
+// The layout that the library was built for: 64-bit sizes, and no padding.
+const _: () = assert!(std::mem::size_of::<Answer>() == 16 && std::mem::size_of::<State>() == 1672);
+
 impl State {
     /// One thread with an empty program, one cell, unowned and shared, depth 1: in range, and zero everywhere else.
     pub fn smallest() -> State {
