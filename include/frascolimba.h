@@ -63,7 +63,7 @@ struct frascolimba_state {
     size_t depth;                                     /* 1 to 8: how many stores may pend with a thread */
     size_t positions[FRASCOLIMBA_THREADS];            /* the next instruction, 0 to the instruction count, which is the end */
     size_t counts[FRASCOLIMBA_THREADS];               /* how many instructions, 0 to 32 */
-    struct frascolimba_queue queues[FRASCOLIMBA_THREADS];
+    struct frascolimba_queue queues[FRASCOLIMBA_THREADS]; /* the stores that pend */
     /* instruction k of row t stands at t * FRASCOLIMBA_INSTRUCTIONS + k */
     struct frascolimba_instruction code[FRASCOLIMBA_THREADS * FRASCOLIMBA_INSTRUCTIONS];
     /* register r of row t stands at t * FRASCOLIMBA_REGISTERS + r */

@@ -20,6 +20,8 @@ alike-sym a = record {
   instruction = λ t k h l. let u = rw (a .threads) at h in sym (a .instruction t k u (rw (a .count t u) at l));
   pends = λ t h. sym (a .pends t (rw (a .threads) at h));
   entry = λ t k h l. let u = rw (a .threads) at h in sym (a .entry t k u (rw (a .pends t u) at l));
+  register = λ t r h l. sym (a .register t r (rw (a .threads) at h) l);
+  flag = λ t h. sym (a .flag t (rw (a .threads) at h));
 }
 
 alike-in : {s m : State} → Alike s m → InRange s → InRange m

@@ -5,6 +5,7 @@ pub mod Shape
 pub mod Coincide
 pub mod Said
 pub mod Judged
+pub mod Alike
 pub mod Taken
 pub mod Untouched
 pub mod Follow

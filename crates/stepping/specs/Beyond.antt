@@ -6,12 +6,12 @@ use lib.IntN.{pos}
 use Rattle.reader.specs.declared.state.Pending.{Pending}
 use Rattle.reader.specs.declared.state.State.{State}
 use Rattle.reader.specs.Limits.{REGISTERS}
-use Rattle.reader.specs.State.{noPending, queueOf, positionOf, countOf, dirtyOf, instructionOf, memoryOf, ownerOf, sharingOf}
+use Rattle.reader.specs.State.{noPending, queueOf, positionOf, countOf, dirtyOf, instructionOf, registerOf, memoryOf, ownerOf, sharingOf}
 
 abbrev pub entryOf : State → ℕ → ℕ → Pending
 entryOf s t k = getD (queueOf s t .entries) k noPending
 
--- two states that are the same within the counts, in all that is judged; beyond them they may differ in anything
+-- two states that are the same within the counts, in all that an answer may look at; beyond them they may differ in anything
 pub record Alike (s m : State) : Type 0 where
   pub threads : m .threads ≡ s .threads
   pub cells : m .cells ≡ s .cells
@@ -23,6 +23,8 @@ pub record Alike (s m : State) : Type 0 where
   pub instruction : (t k : ℕ) → t < s .threads → k < countOf s t → instructionOf m t k ≡ instructionOf s t k
   pub pends : (t : ℕ) → t < s .threads → queueOf m t .count ≡ queueOf s t .count
   pub entry : (t k : ℕ) → t < s .threads → k < queueOf s t .count → entryOf m t k ≡ entryOf s t k
+  pub register : (t r : ℕ) → t < s .threads → r < REGISTERS → registerOf m t r ≡ registerOf s t r
+  pub flag : (t : ℕ) → t < s .threads → dirtyOf m t ≡ dirtyOf s t
 
 -- what a call leaves as it was: sizes and programs whole, rows from `threads` on, cells from `cells` on, and entries that no count covers, before or after
 pub record Untouched (s m : State) : Type 0 where
