@@ -27,10 +27,11 @@ use Rattle.discipline.specs.Elsewhere.{holdsOf, holds, elsewhereOf}
 use Rattle.discipline.specs.Rules.{releaseBreaks, brokenOf}
 use Rattle.discipline.specs.Step.{nextHeld, nextElsewhere, checkedTake, checkedOf}
 use Rattle.discipline.proofs.Meaning.{judgedAs, take-number}
-use Rattle.stepping.specs.Range.{inRangeOf}
-use Rattle.stepping.specs.Step.{need, answeredOf, carriedOf, steppedOf}
+use Rattle.stepping.specs.declared.step.After.{After}
+use Rattle.stepping.specs.Step.{answeredOf, steppedOf}
 use Rattle.stepping.specs.Beyond.{Alike}
 use Rattle.stepping.proofs.Exact.{range-in}
+use Rattle.stepping.proofs.Cases.{stepped-out, stepped-no-item, stepped-carried, stepped-cases}
 use Rattle.stepping.proofs.Judged.{not-judged}
 
 -- two rows with the same pending stores hold stores to the same cells
@@ -119,12 +120,10 @@ module _ {s m : State} (a : Alike s m) (x : ℕ) where
       go false e = take-alike a g (take-row (s .threads) x f (leb-false _ _ e) .1)
 
   pub answer-alike : steppedOf m x .answer ≡ steppedOf s x .answer
-  unfolding steppedOf
   answer-alike =
-      let f : itemFits (m .threads) x ≡ itemFits (s .threads) x = ap (λ (n : ℕ). itemFits n x) (a .threads) in
-      rw (not-judged a, f) (go (inRangeOf s) refl (itemFits (s .threads) x) refl)
-    where
-      go : (b : Bool) → inRangeOf s ≡ b → (c : Bool) → itemFits (s .threads) x ≡ c → need b 10 m (need c 8 m (carriedOf (checkedOf m x) x)) .answer ≡ need b 10 s (need c 8 s (carriedOf (checkedOf s x) x)) .answer
-      go false e c f = refl
-      go true e false f = refl
-      go true e true f = ap (λ (n : ℕ). answeredOf n x) (number-alike (range-in s e) f)
+      let i = not-judged a in
+      let j : itemFits (m .threads) x ≡ itemFits (s .threads) x = ap (λ (n : ℕ). itemFits n x) (a .threads) in
+      stepped-cases s x (λ (r : After). steppedOf m x .answer ≡ r .answer)
+      (λ e. ap (λ (r : After). r .answer) (stepped-out m x (i ∙ e)))
+      (λ e f. ap (λ (r : After). r .answer) (stepped-no-item m x (i ∙ e) (j ∙ f)))
+      (λ e f. ap (λ (r : After). r .answer) (stepped-carried m x (i ∙ e) (j ∙ f)) ∙ ap (λ (n : ℕ). answeredOf n x) (number-alike (range-in s e) f))

@@ -16,9 +16,10 @@ use Rattle.discipline.specs.Check.{answer, threadOf}
 use Rattle.discipline.specs.Run.{Runnable, Items}
 use Rattle.discipline.specs.Step.{checkedOf}
 use Rattle.discipline.proofs.One.{stays-checked}
-use Rattle.stepping.specs.Step.{answeredOf, carriedOf, steppedOf}
+use Rattle.stepping.specs.Step.{carriedOf, steppedOf}
 use Rattle.stepping.specs.Follow.{shownOf, Followed, follow, AsRun}
 use Rattle.stepping.proofs.Exact.{in-range}
+use Rattle.stepping.proofs.Cases.{answered-taken, answered-stopped, stepped-carried}
 use Rattle.stepping.proofs.Taken.{Leaves, leaves}
 
 -- a run that has taken one item more before it begins has taken one more when it ends
@@ -39,14 +40,13 @@ one-more n = omega arith
 
 -- in range and with an item that fits, the call does what a run does
 stepped-checked : {s : State} (g : Runnable s) (x : ℕ) → itemFits (s .threads) x ≡ true → steppedOf s x ≡ carriedOf (checkedOf s x) x
-unfolding steppedOf
-stepped-checked {s} g x f = rw (in-range s (g .inRange), f)
+stepped-checked {s} g x f = stepped-carried s x (in-range s (g .inRange)) f
 
 module _ (s : State) (x : ℕ) (xs : List ℕ) (es : steppedOf s x ≡ carriedOf (checkedOf s x) x) where
   module _ (e : eqb (checkedOf s x .number) 0 ≡ true) where
     follow-taken : (f : Followed) → f ≡ follow (checkedOf s x .state) xs → follow s (x ∷ xs) ≡ record { state = f .state; answer = answer (f .answer .number) (suc (f .answer .place)) (f .answer .thread); values = shownOf s x (checkedOf s x .state) ∷ f .values }
-    unfolding follow answeredOf
-    follow-taken f ef = rw (es, e, ← ef, one-more (f .answer .place))
+    unfolding follow
+    follow-taken f ef = rw (es, answered-taken _ x (eqb-true _ _ e), ← ef, one-more (f .answer .place))
 
     run-taken : runOf checkedOf s 0 (x ∷ xs) ≡ later (runOf checkedOf (checkedOf s x .state) 0 xs)
     unfolding runOf
@@ -69,10 +69,11 @@ module _ (s : State) (x : ℕ) (xs : List ℕ) (es : steppedOf s x ≡ carriedOf
 
   module _ (e : eqb (checkedOf s x .number) 0 ≡ false) where
     follow-stopped : follow s (x ∷ xs) ≡ record { state = s; answer = answer (checkedOf s x .number) 0 (threadOf x); values = [] }
-    unfolding follow answeredOf
+    unfolding follow
     follow-stopped =
-        let k : checkedOf s x .state ≡ s = ap (λ (o : Outcome). o .state) (stays-checked s x .stays (eqb-false _ _ e)) in
-        rw (es, e, e, k)
+        let n = eqb-false _ _ e in
+        let k : checkedOf s x .state ≡ s = ap (λ (o : Outcome). o .state) (stays-checked s x .stays n) in
+        rw (es, answered-stopped _ x n, e, k)
 
     stopped : AsRun s (x ∷ xs) (follow s (x ∷ xs))
     unfolding runOf valuesOf

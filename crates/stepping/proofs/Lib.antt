@@ -2,6 +2,7 @@ pub mod Tests
 pub mod All
 pub mod Exact
 pub mod Shape
+pub mod Cases
 pub mod Coincide
 pub mod Said
 pub mod Judged

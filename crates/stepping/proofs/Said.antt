@@ -6,7 +6,7 @@ use native.Mathlib.Omega.{arith}
 use lib.Dec.{eqb}
 use borrow.Author.Tests.{eqb-true, eqb-false}
 use Rattle.reader.specs.declared.state.State.{State}
-use Rattle.reader.specs.Rules.{pick, itemFits}
+use Rattle.reader.specs.Rules.{itemFits}
 use Rattle.reader.specs.Range.{InRange}
 use Rattle.reader.proofs.Tests.{false-true}
 use Rattle.machine.specs.declared.outcome.Outcome.{Outcome}
@@ -16,10 +16,10 @@ use Rattle.discipline.specs.Meaning.{Against, at-end, fence-waits, swap-waits, 
 use Rattle.discipline.specs.Step.{checkedOf}
 use Rattle.discipline.proofs.One.{stays-checked}
 use Rattle.discipline.proofs.Meaning.{stopped-least, nothing-if-taken}
-use Rattle.stepping.specs.Range.{inRangeOf}
-use Rattle.stepping.specs.Step.{keptOf, need, answeredOf, carriedOf, steppedOf}
+use Rattle.stepping.specs.Step.{keptOf, carriedOf, steppedOf}
 use Rattle.stepping.specs.Said.{Said}
 use Rattle.stepping.proofs.Exact.{range-in, in-range}
+use Rattle.stepping.proofs.Cases.{answered-taken, answered-stopped, stepped-cases}
 
 -- no reason against an item has a number below 20, so 8 and 10 are never its number
 against-high : {s : State} {t : ℕ} (a : Action) (n : ℕ) → Against s t a n → 20 ≤ n
@@ -127,21 +127,15 @@ module _ (s : State) (x : ℕ) where
           }
 
       said-carried : Said s x (carriedOf (checkedOf s x) x)
-      unfolding answeredOf
       said-carried = go (eqb (checkedOf s x .number) 0) refl
         where
-          go : (b : Bool) → eqb (checkedOf s x .number) 0 ≡ b → Said s x (record { answer = pick b (answer 0 1 0) (answer (checkedOf s x .number) 0 (threadOf x)); state = checkedOf s x .state })
-          go true e = said-taken (eqb-true _ _ e)
-          go false e = said-stopped (eqb-false _ _ e)
-
-  said-in : InRange s → (b : Bool) → itemFits (s .threads) x ≡ b → Said s x (need b 8 s (carriedOf (checkedOf s x) x))
-  said-in g true f = said-carried g f
-  said-in g false f = said-no-item g f
+          go : (b : Bool) → eqb (checkedOf s x .number) 0 ≡ b → Said s x (carriedOf (checkedOf s x) x)
+          go true e = let z = eqb-true _ _ e in rw (answered-taken (checkedOf s x .number) x z) (said-taken z)
+          go false e = let n = eqb-false _ _ e in rw (answered-stopped (checkedOf s x .number) x n) (said-stopped n)
 
   pub said : Said s x (steppedOf s x)
-  unfolding steppedOf
-  said = go (inRangeOf s) refl
-    where
-      go : (b : Bool) → inRangeOf s ≡ b → Said s x (need b 10 s (need (itemFits (s .threads) x) 8 s (carriedOf (checkedOf s x) x)))
-      go true e = said-in (range-in s e) (itemFits (s .threads) x) refl
-      go false e = said-out (λ g. false-true (sym e ∙ in-range s g))
+  said =
+      stepped-cases s x (Said s x)
+      (λ e. said-out (λ g. false-true (sym e ∙ in-range s g)))
+      (λ e f. said-no-item (range-in s e) f)
+      (λ e f. said-carried (range-in s e) f)

@@ -34,10 +34,11 @@ use Rattle.discipline.specs.Run.{Runnable}
 use Rattle.discipline.specs.Step.{nextMarks, checkedTake, checkedOf}
 use Rattle.discipline.proofs.Decided.{both-checked}
 use Rattle.discipline.proofs.One.{stays-checked}
-use Rattle.stepping.specs.Range.{inRangeOf}
-use Rattle.stepping.specs.Step.{need, carriedOf, steppedOf}
+use Rattle.stepping.specs.declared.step.After.{After}
+use Rattle.stepping.specs.Step.{steppedOf}
 use Rattle.stepping.specs.Beyond.{entryOf, Untouched}
 use Rattle.stepping.proofs.Exact.{range-in}
+use Rattle.stepping.proofs.Cases.{stepped-cases}
 use Rattle.stepping.proofs.Taken.{free}
 
 same : (s : State) → Untouched s s
@@ -152,10 +153,8 @@ module _ {s : State} (g : Runnable s) where
 
 -- of every state that has the shape of its type, in range or not, and every byte
 pub untouched : (s : State) → Shaped s → (x : ℕ) → Untouched s (steppedOf s x .state)
-unfolding steppedOf
-untouched s p x = go (inRangeOf s) refl (itemFits (s .threads) x) refl
-  where
-    go : (b : Bool) → inRangeOf s ≡ b → (c : Bool) → itemFits (s .threads) x ≡ c → Untouched s (need b 10 s (need c 8 s (carriedOf (checkedOf s x) x)) .state)
-    go false e c f = same s
-    go true e false f = same s
-    go true e true f = checked-untouched (record { inRange = range-in s e; shaped = p }) x f
+untouched s p x =
+    stepped-cases s x (λ (r : After). Untouched s (r .state))
+    (λ e. same s)
+    (λ e f. same s)
+    (λ e f. checked-untouched (record { inRange = range-in s e; shaped = p }) x f)

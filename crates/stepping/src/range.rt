@@ -64,11 +64,10 @@ fn queue_fits(cells: usize, depth: usize, q: Queue) -> bool
     requires { ⌜ depth ≤ DEPTH ⌝ }
     ensures { λ r. ⌜ r ≡ queueFits cells depth q ⌝ }
 {
-    let count = q.count;
-    if depth < count {
+    if depth < q.count {
         return false;
     }
-    let mut n = count;
+    let mut n = q.count;
     while 0 < n {
         let k = n - 1;
         let e = q.entries[k];

@@ -10,10 +10,10 @@ use Rattle.stepping.proofs.range.queue_fits.Statement.{statement}
 use Rattle.stepping.proofs.range.queue_fits.Tie as tie
 
 abbrev Inv-loop : tie.InvT-loop
-Inv-loop cells depth q count n₀ n = (n ≤ depth) × (allBelow (pendingFits cells q) (q .count) ≡ allBelow (pendingFits cells q) n)
+Inv-loop cells depth q n₀ n = (n ≤ depth) × (allBelow (pendingFits cells q) (q .count) ≡ allBelow (pendingFits cells q) n)
 
 abbrev μ-loop : tie.MeasureT-loop
-μ-loop cells depth q count n₀ n = n
+μ-loop cells depth q n₀ n = n
 
 returns : tie.Need-returns Inv-loop μ-loop
 unfolding queueFits
