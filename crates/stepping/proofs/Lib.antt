@@ -1,0 +1,13 @@
+pub mod Tests
+pub mod All
+pub mod Exact
+pub mod Shape
+pub mod Cases
+pub mod Coincide
+pub mod Said
+pub mod Judged
+pub mod Alike
+pub mod Taken
+pub mod Untouched
+pub mod Follow
+pub mod FromBytes
