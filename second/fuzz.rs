@@ -14,8 +14,9 @@ use std::thread;
 /// Cases that the other program gets at once.
 const AT_ONCE: usize = 10_000;
 
-/// A fault that is in every case needs no more of them to be found.
-const MOST_KEPT: usize = 10;
+/// Every case that differs is kept. A fault that is in all of them needs no more small ones
+/// than these to be found.
+const MOST_SHRUNK: usize = 10;
 
 /// A command that reads a bundle and prints a report for each case.
 struct Other<'a>(&'a [String]);
@@ -37,12 +38,16 @@ pub fn fuzz(
         let cases: Vec<Vec<u8>> =
             (0..AT_ONCE.min(count - compared)).map(|_| one(&mut dice)).collect();
         let differing = differing(&cases, &other.says(&cases)?);
-        for &index in differing.iter().take(MOST_KEPT) {
+        for (nth, &index) in differing.iter().enumerate() {
             let file = format!("{folder}/{seed}-{}.case", compared + index);
-            keep(&file, &cases[index], &other)?;
+            write(&file, &cases[index])?;
+            if nth < MOST_SHRUNK {
+                shrink(&file, &cases[index], &other)?;
+            }
         }
         compared += cases.len();
         if !differing.is_empty() {
+            println!("{} cases are kept: {folder}/{seed}-*.case", differing.len());
             return Ok((compared, differing.len()));
         }
     }
@@ -86,15 +91,14 @@ fn split(said: &str, most: usize) -> Vec<&str> {
     places.windows(2).map(|pair| &said[pair[0]..pair[1]]).collect()
 }
 
-/// Writes the case, the smallest one found that still differs, and what each program
-/// says of that.
-fn keep(file: &str, case: &[u8], other: &Other) -> Result<(), String> {
-    let write = |name: &str, bytes: &[u8]| {
-        fs::write(name, bytes).map_err(|error| format!("{name}: {error}"))
-    };
+fn write(name: &str, bytes: &[u8]) -> Result<(), String> {
+    fs::write(name, bytes).map_err(|error| format!("{name}: {error}"))
+}
+
+/// Writes the smallest case found that still differs, and what each program says of it.
+fn shrink(file: &str, case: &[u8], other: &Other) -> Result<(), String> {
     let alone = |bytes: &[u8]| -> Result<String, String> { other.says(&[bytes.to_vec()]) };
     let differs = |bytes: &[u8]| Ok(alone(bytes)? != judge(bytes).text());
-    write(file, case)?;
     if !differs(case)? {
         println!("{file}: differs behind the cases before it, and not alone");
         return Ok(());
