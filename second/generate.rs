@@ -14,7 +14,7 @@ pub fn generate(seed: u64, count: usize) -> Vec<Vec<u8>> {
     (0..count).map(|_| one(&mut dice)).collect()
 }
 
-fn one(dice: &mut Dice) -> Vec<u8> {
+pub fn one(dice: &mut Dice) -> Vec<u8> {
     match dice.below(100) {
         0..=39 => bytes_of(&taken(dice).case),
         40..=69 => stopped(dice),

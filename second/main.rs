@@ -7,6 +7,7 @@ mod case;
 mod check;
 mod damage;
 mod dice;
+mod fuzz;
 mod generate;
 mod judge;
 mod largest;
@@ -28,7 +29,8 @@ use std::process::ExitCode;
 
 const USAGE: &str = "usage: second run <CASE | second bundle FILE | second assemble FILE [CASE]
        second pack FILE... | second check FILE... | second generate SEED COUNT
-       second mechanical [check] | second tally FILE | second shrink FILE COMMAND...";
+       second mechanical [check] | second tally FILE | second shrink FILE COMMAND...
+       second fuzz COUNT SEED FOLDER COMMAND...";
 
 fn main() -> ExitCode {
     let arguments: Vec<String> = std::env::args().skip(1).collect();
@@ -59,6 +61,10 @@ fn mode(arguments: &[String]) -> Result<ExitCode, String> {
         ("tally", [file]) => write(tally::tally(&bundle::unpack(&file_bytes(file)?)?).as_bytes()),
         ("shrink", [file, command @ ..]) if !command.is_empty() => {
             write(shrink::shrink(file, command)?.as_bytes())
+        }
+        ("fuzz", [count, seed, folder, command @ ..]) if !command.is_empty() => {
+            let (count, seed) = (notation::whole(count)?, notation::whole(seed)?);
+            Ok(comparison(fuzz::fuzz(count, seed, folder, command)?))
         }
         _ => Err(USAGE.into()),
     }
@@ -92,6 +98,15 @@ fn bundle_outputs(file: &str) -> Result<String, String> {
 fn report((right, wrong): (usize, usize)) -> ExitCode {
     println!("{right} right, {wrong} wrong");
     if wrong == 0 {
+        ExitCode::SUCCESS
+    } else {
+        ExitCode::FAILURE
+    }
+}
+
+fn comparison((compared, differ): (usize, usize)) -> ExitCode {
+    println!("{compared} compared, {differ} differ");
+    if differ == 0 {
         ExitCode::SUCCESS
     } else {
         ExitCode::FAILURE

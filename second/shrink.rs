@@ -1,5 +1,5 @@
-//! Makes an interesting case smaller. A case is interesting when the command, with the
-//! case's file name as its last argument, ends with a status other than 0.
+//! Makes an interesting case smaller. For the mode `shrink` a case is interesting when the
+//! command, with the case's file name as its last argument, ends with a status other than 0.
 
 use crate::case::*;
 use crate::reader::read;
@@ -8,19 +8,29 @@ use std::fs;
 use std::process::{Command, Stdio};
 
 pub fn shrink(file: &str, command: &[String]) -> Result<String, String> {
-    let mut best = fs::read(file).map_err(|error| format!("{file}: {error}"))?;
+    let case = fs::read(file).map_err(|error| format!("{file}: {error}"))?;
     let trial = format!("{file}.try");
     let interesting = |bytes: &[u8]| is_interesting(&trial, command, bytes);
-    if !interesting(&best)? {
+    if !interesting(&case)? {
         return Err(format!("{file}: the command ends with status 0 on it"));
     }
-    while let Some(smaller) = first_smaller(&best, interesting)? {
-        best = smaller;
-    }
+    let best = smallest(&case, interesting)?;
     let small = format!("{file}.small");
     fs::write(&small, &best).map_err(|error| format!("{small}: {error}"))?;
     fs::remove_file(&trial).map_err(|error| format!("{trial}: {error}"))?;
     Ok(format!("{small}: {} bytes\n", best.len()))
+}
+
+/// The smallest interesting case that steps from an interesting one lead to.
+pub fn smallest(
+    case: &[u8],
+    interesting: impl Fn(&[u8]) -> Result<bool, String>,
+) -> Result<Vec<u8>, String> {
+    let mut best = case.to_vec();
+    while let Some(smaller) = first_smaller(&best, &interesting)? {
+        best = smaller;
+    }
+    Ok(best)
 }
 
 fn is_interesting(trial: &str, command: &[String], bytes: &[u8]) -> Result<bool, String> {

@@ -1,8 +1,8 @@
 -- The check gives the answer and the lists, and the report is made of them.
 use borrow.Author.Needs.{needs}
-use Rattle.frascolimba.proofs.Joined.{joined}
-use Rattle.frascolimba.proofs.judge.judged.Statement.{statement}
-use Rattle.frascolimba.proofs.judge.judged.Tie as tie
+use Rattle.judge.proofs.Joined.{joined}
+use Rattle.judge.proofs.judged.Statement.{statement}
+use Rattle.judge.proofs.judged.Tie as tie
 
 check-requires : tie.Need-check-requires
 check-requires c κs = search needs

@@ -7,7 +7,7 @@ use Rattle.discipline.specs.declared.check.Answer.{Answer}
 use Rattle.discipline.specs.Check.{Checks}
 use Rattle.report.specs.Text.{report}
 use Rattle.report.specs.Puts.{Fronts}
-use Rattle.frascolimba.specs.Output.{cellsOf, outputOf}
+use Rattle.judge.specs.Output.{cellsOf, outputOf}
 
 pub joined : {case : List ℕ} {vs ms vs′ ms′ : List ℤ} {a : Answer} {n : ℕ} {out out′ : List ℕ} {r : ℕ} → Checks case vs ms a vs′ ms′ → n ≡ cellsOf case → Fronts (report (a .number) (a .place) (a .thread) n vs′ ms′) out r out′ → Fronts (outputOf case vs ms) out r out′
 unfolding outputOf

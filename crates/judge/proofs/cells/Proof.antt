@@ -3,8 +3,8 @@ use mathlib.Core.Path.{sym}
 use denote.Ref.{now}
 use lib.ListN.{List·getD-eq-default}
 use borrow.Author.Needs.{needs}
-use Rattle.frascolimba.proofs.judge.cells.Statement.{statement}
-use Rattle.frascolimba.proofs.judge.cells.Tie as tie
+use Rattle.judge.proofs.cells.Statement.{statement}
+use Rattle.judge.proofs.cells.Tie as tie
 
 shared-slice-read-wide : tie.Need-shared-slice-read-wide
 shared-slice-read-wide c = search needs

@@ -1,2 +1,0 @@
--- What the program's contract cites.
-pub mod Output

@@ -1,0 +1,2 @@
+-- What the contract of a judged case cites.
+pub mod Output

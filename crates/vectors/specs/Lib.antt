@@ -1,0 +1,2 @@
+-- What the contracts of the bundle's program cite.
+pub mod Prefix
