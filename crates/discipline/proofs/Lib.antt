@@ -17,6 +17,7 @@ pub mod One
 pub mod Meaning
 pub mod Coincide
 pub mod Outcomes
+pub mod Keeps
 pub mod Fence
 pub mod Taking
 pub mod Logged

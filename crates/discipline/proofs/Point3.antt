@@ -26,7 +26,7 @@ use Rattle.discipline.proofs.Meaning.{ran-taken}
 use Rattle.discipline.proofs.Coupling.{Inv, start, alike-mem, alike-loc}
 use Rattle.discipline.proofs.View.{Log, Local, program, registersOf, localOf, view, plainView}
 use Rattle.discipline.proofs.Logged.{Named, Below, logsOf, lastOf, run-last, log-run, none-over}
-use Rattle.discipline.proofs.Stepping.{keeps-same}
+use Rattle.discipline.proofs.Keeps.{keeps-same}
 use Rattle.discipline.proofs.Reduced.{Fitting, Coupled, coupled}
 
 -- the items of a schedule, one by one

@@ -12,25 +12,22 @@ use Rattle.reader.specs.declared.state.State.{State}
 use Rattle.reader.specs.Limits.{THREADS}
 use Rattle.reader.specs.State.{positionOf}
 use Rattle.reader.specs.Rules.{pick, itemFits}
-use Rattle.reader.specs.Drain.{drainedOf}
 use Rattle.machine.specs.Action.{nextOf}
-use Rattle.machine.specs.Effect.{tookOf}
 use Rattle.machine.specs.Plain.{plainOf}
 use Rattle.machine.proofs.Take.{drain-row, take-row}
-use Rattle.discipline.specs.Table.{isDirty, holdingOf}
+use Rattle.discipline.specs.Table.{isDirty}
 use Rattle.discipline.specs.Run.{Runnable}
 use Rattle.discipline.specs.Step.{nextMarks, checkedOf}
 use Rattle.discipline.specs.Order.{Plan, drains, planBy, rowOf, planOf, countsOf, orderFrom}
 use Rattle.discipline.specs.Meaning.{Taken, none, more}
-use Rattle.discipline.proofs.Sound.{drained-sound, took-sound}
-use Rattle.discipline.proofs.Outcomes.{pending-there, drain-taken, neither, instruction-taken}
 use Rattle.discipline.proofs.Maps.{upd, set-upd}
 use Rattle.discipline.proofs.Abstract.{Act, Plain, dirtied, plan}
 use Rattle.discipline.proofs.Coupling.{Inv, block, sim-take, sim-drain}
 use Rattle.discipline.proofs.View.{Log, Local, noted, program, view, plainView}
-use Rattle.discipline.proofs.Taking.{about, program-next, plan-same, taken-goes, instruction-takes, drain-drains}
+use Rattle.discipline.proofs.Taking.{about, program-next, plan-same, instruction-takes, drain-drains}
 use Rattle.discipline.proofs.Logged.{logsAfter, logsOf, lastOf, last-append, logs-append}
-use Rattle.discipline.proofs.Stepping.{Keeps, keeps-same, keeps-on, steps-block}
+use Rattle.discipline.proofs.Stepping.{steps-block}
+use Rattle.discipline.proofs.Keeps.{Keeps, keeps-same, keeps-on, taken-goes, checked-keeps}
 
 -- items that are right for so many threads
 abbrev pub Fitting : ℕ → List ℕ → Type 0
@@ -78,36 +75,21 @@ module _ {s : State} (g : Runnable s) (logs : ℕ → Log) (k : List (List ℕ))
       (subst (λ (y : Plan). Inv (program (s .code) (s .counts)) w (upd (countsOf k) t (y .counts)) (block (program (s .code) (s .counts)) (y .steps) t o)) q
       (sim-take (program (s .code) (s .counts)) (view s logs) (countsOf k) o t v (instruction-takes g h l logs z))))
 
--- what an item that is taken keeps
-module _ {s : State} (g : Runnable s) {t : ℕ} (h : t < s .threads) where
-  drain-keeps : checkedOf s (17 + t) .number ≡ 0 → Keeps s (checkedOf s (17 + t) .state)
-  unfolding drainedOf
-  drain-keeps z = rw (drain-taken s t z) (record { runnable = drained-sound g h (pending-there s t z); code = refl; counts = refl; threads = refl })
-
-  take-keeps : checkedOf s (1 + t) .number ≡ 0 → Keeps s (checkedOf s (1 + t) .state)
-  unfolding holdingOf tookOf
-  take-keeps z =
-      let n = g .inRange .threads in
-      let b : t < 16 = omega arith in
-      let l = taken-goes s t b z in
-      rw (instruction-taken s t b z) (record { runnable = took-sound g h l (neither s t b z .0); code = refl; counts = refl; threads = refl })
-
--- one item: what is kept, and the coupling
+-- one item, whichever it is
 module _ {s : State} (g : Runnable s) (logs : ℕ → Log) (k : List (List ℕ)) (lk : length k ≡ THREADS) (o : Plain Local) (v : Inv (program (s .code) (s .counts)) (view s logs) (countsOf k) o) (x : ℕ) (f : itemFits (s .threads) x ≡ true) (z : checkedOf s x .number ≡ 0) where
-  pub item : Keeps s (checkedOf s x .state) × After (s .code) (s .counts) s logs k o x × (rowOf x < s .threads)
+  pub item : After (s .code) (s .counts) s logs k o x × (rowOf x < s .threads)
   item = by (leb 17 x) refl
     where
-      by : (b : Bool) → leb 17 x ≡ b → Keeps s (checkedOf s x .state) × After (s .code) (s .counts) s logs k o x × (pick b (x - 17) (x - 1) < s .threads)
+      by : (b : Bool) → leb 17 x ≡ b → After (s .code) (s .counts) s logs k o x × (pick b (x - 17) (x - 1) < s .threads)
       by true e =
           let l = leb-true 17 x e in
           let h = drain-row (s .threads) x f l (g .inRange .threads) in
           let q : 17 + (x - 17) ≡ x = omega arith in
-          (subst (λ (y : ℕ). Keeps s (checkedOf s y .state)) q (drain-keeps g h (rw q z)), subst (λ (y : ℕ). After (s .code) (s .counts) s logs k o y) q (drain-item g logs k lk o v h (rw q z)), h)
+          (subst (λ (y : ℕ). After (s .code) (s .counts) s logs k o y) q (drain-item g logs k lk o v h (rw q z)), h)
       by false e =
-          let l = leb-false 17 x e in
-          let r = take-row (s .threads) x f l in
+          let r = take-row (s .threads) x f (leb-false 17 x e) in
           let q : 1 + (x - 1) ≡ x = omega (arith, r .0) in
-          (subst (λ (y : ℕ). Keeps s (checkedOf s y .state)) q (take-keeps g (r .1) (rw q z)), subst (λ (y : ℕ). After (s .code) (s .counts) s logs k o y) q (take-item g logs k lk o v (r .1) (rw q z)), r .1)
+          (subst (λ (y : ℕ). After (s .code) (s .counts) s logs k o y) q (take-item g logs k lk o v (r .1) (rw q z)), r .1)
 
 -- a run from s to m and the one-memory machine from o, with the logs, the counts and the programs that they share
 pub record Coupled (code : List Instruction) (counts : List ℕ) (s m o : State) (xs : List ℕ) (logs alone : ℕ → Log) (k : List (List ℕ)) : Type 0 where
@@ -130,12 +112,12 @@ module _ (code : List Instruction) (counts : List ℕ) where
       let p = planOf s x (countsOf k (rowOf x)) in
       let i = item g logs k lk (plainView o alone) (rw (ec, en) v) x (f .0) z in
       let s′ = checkedOf s x .state in
-      let q = i .0 in
+      let q = checked-keeps g x (f .0) z in
       let now = replicate (p .steps) (rowOf x + 1) in
-      let b = steps-block code counts (p .steps) (rowOf x) o alone (w .runnable) (omega (arith, w .threads, i .2)) (w .code ∙ ec) (w .counts ∙ en) in
+      let b = steps-block code counts (p .steps) (rowOf x) o alone (w .runnable) (omega (arith, w .threads, i .1)) (w .code ∙ ec) (w .counts ∙ en) in
       let o′ = lastOf plainOf o now in
       let k′ = set k (rowOf x) (p .counts) in
-      let v′ : Inv (program code counts) (view s′ (logsAfter checkedOf s x logs)) (countsOf k′) (plainView o′ (logsOf plainOf o now alone)) = rw (b .1, ← ec, ← en) (i .1) in
+      let v′ : Inv (program code counts) (view s′ (logsAfter checkedOf s x logs)) (countsOf k′) (plainView o′ (logsOf plainOf o now alone)) = rw (b .1, ← ec, ← en) (i .0) in
       let w′ : Keeps s′ o′ = record { runnable = b .0 .runnable; code = b .0 .code ∙ w .code ∙ sym (q .code); counts = b .0 .counts ∙ w .counts ∙ sym (q .counts); threads = b .0 .threads ∙ w .threads ∙ sym (q .threads) } in
       let r = coupled rest o′ (logsAfter checkedOf s x logs) (logsOf plainOf o now alone) k′ (length-set k (rowOf x) (p .counts) ∙ lk) (q .runnable) (q .code ∙ ec) (q .counts ∙ en) w′ (rw (q .threads) (f .1)) v′ in
       record {

@@ -31,6 +31,7 @@ use Rattle.discipline.proofs.Coupling.{block, block-zero, block-suc}
 use Rattle.discipline.proofs.View.{Log, Local, noted, overrun, went, acted, program, registersOf, localOf, memoryMap, plainView}
 use Rattle.discipline.proofs.Viewed.{memory-took, local-took, local-other}
 use Rattle.discipline.proofs.Taking.{About, about, register-there, program-next}
+use Rattle.discipline.proofs.Keeps.{Keeps, keeps-same, keeps-on}
 use Rattle.discipline.proofs.Logged.{logsAfter, logsOf, lastOf}
 
 pair-same : {A B : Type 0} {a a′ : A} {b b′ : B} → a ≡ a′ → b ≡ b′ → _≡_ {A = A × B} (a, b) (a′, b′)
@@ -131,18 +132,6 @@ module _ {s : State} (g : Runnable s) {t : ℕ} (h : t < s .threads) (logs : ℕ
       rw (lt-leb 17 (t + 1) b, e) (at-end-or s t step-goes step-ends)
 
 -- what a step of row t keeps
-pub record Keeps (s m : State) : Type 0 where
-  pub runnable : Runnable m
-  pub code : m .code ≡ s .code
-  pub counts : m .counts ≡ s .counts
-  pub threads : m .threads ≡ s .threads
-
-pub keeps-same : {s : State} → Runnable s → Keeps s s
-keeps-same g = record { runnable = g; code = refl; counts = refl; threads = refl }
-
-pub keeps-on : {s m o : State} → Keeps s m → Keeps m o → Keeps s o
-keeps-on a b = record { runnable = b .runnable; code = b .code ∙ a .code; counts = b .counts ∙ a .counts; threads = b .threads ∙ a .threads }
-
 pub step-keeps : {s : State} → Runnable s → {t : ℕ} → t < s .threads → Keeps s (plainOf s (t + 1) .state)
 unfolding plainStep tookOf
 step-keeps {s} g {t} h =

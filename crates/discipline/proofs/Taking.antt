@@ -30,8 +30,8 @@ use Rattle.machine.specs.Effect.{cellOf, seenOf, blockedOf, effectOf, tookOf}
 use Rattle.machine.specs.Run.{takenOf}
 use Rattle.machine.specs.Step.{nextEffect}
 use Rattle.machine.proofs.Ten.{ten}
-use Rattle.machine.proofs.Take.{next-end, row-below, row-few, row-drainable, current-in, current-cell}
-use Rattle.machine.proofs.InRange.{next-goes, at-end-or}
+use Rattle.machine.proofs.Take.{row-below, row-few, row-drainable, current-in, current-cell}
+use Rattle.machine.proofs.InRange.{next-goes}
 use Rattle.discipline.specs.declared.table.Held.{Held}
 use Rattle.discipline.specs.Table.{heldOf, isDirty, holdingOf}
 use Rattle.discipline.specs.Marks.{storedOf, marksOf}
@@ -225,11 +225,6 @@ module _ {s : State} (g : Runnable s) {t : ℕ} (h : t < s .threads) (l : positi
         let e : checkedOf s (1 + t) ≡ takenOf (holdingOf (tookOf s t i (nextEffect s t)) t i (nextMarks s t)) (nextEffect s t .value) = instruction-taken s t (omega arith) z in
         let v = view-took (g .shaped) (row-below (g .inRange) h) i (nextEffect s t) (k .register) (nextMarks s t) h logs (noted (logs t) (positionOf s t) (nextOf s t) (nextEffect s t .value)) (omega arith) in
         rw (program-next (logs t), e) (subst (Takes W t (acted lo r (nextOf s t))) (sym v) (takes (nextOf s t) (about (g .inRange) h l) (n .0) (n .1)))
-
--- a program goes on where its instruction is taken
-pub taken-goes : (s : State) (t : ℕ) → t < 16 → checkedOf s (1 + t) .number ≡ 0 → positionOf s t < countOf s t
-unfolding blockedOf
-taken-goes s t h z = at-end-or s t (λ k. k) (λ k. let e = rw (next-end s t k) at (neither s t h z .0) in absurd (omega arith))
 
 -- the oldest pending store drains
 module _ {s : State} (g : Runnable s) {t : ℕ} (h : t < s .threads) (logs : ℕ → Log) where

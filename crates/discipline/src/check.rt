@@ -20,7 +20,7 @@ pub struct Answer {
 }
 
 // The thread that an item is about.
-fn thread(item: u8) -> u32
+pub fn thread(item: u8) -> u32
     ensures { λ r. ⌜ r ≡ threadOf item ⌝ }
 {
     if 17 <= item {

@@ -1,8 +1,8 @@
 // The stepping call by value: a state and an item byte, whatever they hold. 10 first, then 8, then as a run of that one item.
 ghost use mathlib.Core.Path.{_≡_};
-ghost use Rattle.discipline.specs.Check.{threadOf};
 ghost use Rattle.stepping.specs.Step.{keptOf, answeredOf, steppedOf};
 use crate::range;
+use discipline::check;
 use discipline::check::Answer;
 use discipline::step;
 use reader::rules;
@@ -29,16 +29,6 @@ fn kept(s: State, number: u32) -> After
     }
 }
 
-// The thread that an item is about.
-fn thread(item: u8) -> u32
-    ensures { λ r. ⌜ r ≡ threadOf item ⌝ }
-{
-    if 17 <= item {
-        return (item - 16) as u32;
-    }
-    item as u32
-}
-
 // Place and thread of an item that was taken, or not.
 fn answered(number: u32, item: u8) -> Answer
     ensures { λ r. ⌜ r ≡ answeredOf number item ⌝ }
@@ -53,7 +43,7 @@ fn answered(number: u32, item: u8) -> Answer
     Answer {
         place: 0,
         number: number,
-        thread: thread(item),
+        thread: check::thread(item),
     }
 }
 
