@@ -1,16 +1,14 @@
 -- What an item that is taken keeps: a state that can be run on, with the same programs and as many threads.
 use Prim.Native.Nat.{ℕ, _+_, _-_, _<_}
-use mathlib.Core.Bool.{Bool, true, false}
-use mathlib.Core.Path.{_≡_, refl, _∙_, subst}
+use mathlib.Core.Bool.{true}
+use mathlib.Core.Path.{_≡_, refl, _∙_}
 use native.Mathlib.Omega.{arith}
-use lib.Dec.{leb}
-use borrow.Author.Tests.{leb-true, leb-false}
 use Rattle.reader.specs.declared.state.State.{State}
 use Rattle.reader.specs.State.{positionOf, countOf}
 use Rattle.reader.specs.Rules.{itemFits}
 use Rattle.reader.specs.Drain.{drainedOf}
 use Rattle.machine.specs.Effect.{blockedOf, tookOf}
-use Rattle.machine.proofs.Take.{next-end, drain-row, take-row}
+use Rattle.machine.proofs.Take.{next-end, by-kind}
 use Rattle.machine.proofs.InRange.{at-end-or}
 use Rattle.discipline.specs.Table.{holdingOf}
 use Rattle.discipline.specs.Run.{Runnable}
@@ -48,14 +46,4 @@ module _ {s : State} (g : Runnable s) where
       rw (instruction-taken s t b z) (record { runnable = took-sound g h (taken-goes s t b z) (neither s t b z .0); code = refl; counts = refl; threads = refl })
 
   pub checked-keeps : (x : ℕ) → itemFits (s .threads) x ≡ true → checkedOf s x .number ≡ 0 → Keeps s (checkedOf s x .state)
-  checked-keeps x f z = by (leb 17 x) refl
-    where
-      by : (b : Bool) → leb 17 x ≡ b → Keeps s (checkedOf s x .state)
-      by true e =
-          let l = leb-true 17 x e in
-          let q : 17 + (x - 17) ≡ x = omega arith in
-          subst (λ (y : ℕ). Keeps s (checkedOf s y .state)) q (drain-keeps (drain-row (s .threads) x f l (g .inRange .threads)) (rw q z))
-      by false e =
-          let r = take-row (s .threads) x f (leb-false 17 x e) in
-          let q : 1 + (x - 1) ≡ x = omega (arith, r .0) in
-          subst (λ (y : ℕ). Keeps s (checkedOf s y .state)) q (take-keeps (r .1) (rw q z))
+  checked-keeps = by-kind (s .threads) (g .inRange .threads) (λ x. checkedOf s x .number ≡ 0 → Keeps s (checkedOf s x .state)) (λ t h z. drain-keeps h z) (λ t h z. take-keeps h z)

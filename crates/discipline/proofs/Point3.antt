@@ -6,9 +6,9 @@ use mathlib.Core.List.{List, [], _∷_, _++_, append-nil}
 use native.Mathlib.Omega.{arith}
 use lib.ListN.{length, getD, set, take, replicate}
 use lib.Seq.{ext-getD}
-use lib.Dec.{eqb, leb, ltb}
+use lib.Dec.{eqb, ltb}
 use lib.IntN.{ℤ, pos}
-use borrow.Author.Tests.{leb-true, leb-false, lt-ltb, ltb-true}
+use borrow.Author.Tests.{lt-ltb, ltb-true}
 use Rattle.reader.specs.declared.state.State.{State}
 use Rattle.reader.specs.Limits.{THREADS, REGISTERS}
 use Rattle.reader.specs.State.{queueOf, registerOf, positionOf}
@@ -17,7 +17,7 @@ use Rattle.reader.specs.Rules.{pick, itemFits}
 use Rattle.machine.specs.declared.outcome.Outcome.{Outcome}
 use Rattle.machine.specs.Run.{runOf, valuesOf}
 use Rattle.machine.specs.Plain.{plainOf}
-use Rattle.machine.proofs.Take.{drain-row, take-row}
+use Rattle.machine.proofs.Take.{by-kind}
 use Rattle.discipline.specs.Run.{Runnable, Items}
 use Rattle.discipline.specs.Step.{checkedOf}
 use Rattle.discipline.specs.Order.{rowOf, planOf, countsOf, noCounts, orderFrom, orderOf}
@@ -27,7 +27,7 @@ use Rattle.discipline.proofs.Coupling.{Inv, start, alike-mem, alike-loc
 use Rattle.discipline.proofs.View.{Log, Local, program, registersOf, localOf, view, plainView}
 use Rattle.discipline.proofs.Logged.{Named, Below, logsOf, lastOf, run-last, log-run, none-over}
 use Rattle.discipline.proofs.Keeps.{keeps-same}
-use Rattle.discipline.proofs.Reduced.{Fitting, Coupled, coupled}
+use Rattle.discipline.proofs.Reduced.{Fitting, item-row, Coupled, coupled}
 
 -- the items of a schedule, one by one
 fitting : (threads : ℕ) (xs : List ℕ) → Items threads xs → Fitting threads xs
@@ -35,16 +35,12 @@ fitting threads [] f = tt
 fitting threads (x ∷ xs) f = (f 0 (omega arith), fitting threads xs (λ k h. f (suc k) (omega arith)))
 
 module _ (threads : ℕ) (few : threads ≤ THREADS) where
-  row-there : (x : ℕ) → itemFits threads x ≡ true → (rowOf x < threads) × (1 ≤ x)
-  row-there x f = by (leb 17 x) refl
-    where
-      by : (b : Bool) → leb 17 x ≡ b → (pick b (x - 17) (x - 1) < threads) × (1 ≤ x)
-      by true e = let l = leb-true 17 x e in (drain-row threads x f l few, omega arith)
-      by false e = let l = take-row threads x f (leb-false 17 x e) in (l .1, l .0)
+  item-named : (x : ℕ) → itemFits threads x ≡ true → 1 ≤ x
+  item-named = by-kind threads few (λ x. 1 ≤ x) (λ t h. omega arith) (λ t h. omega arith)
 
   named : (xs : List ℕ) → Fitting threads xs → Named xs
   named [] f = tt
-  named (x ∷ xs) f = (row-there x (f .0) .1, named xs (f .1))
+  named (x ∷ xs) f = (item-named x (f .0), named xs (f .1))
 
   -- an order names rows, and nothing but instructions
   steps-name : (n t : ℕ) (xs : List ℕ) → t < threads → Below xs × Named xs → Below (replicate n (t + 1) ++ xs) × Named (replicate n (t + 1) ++ xs)
@@ -60,7 +56,7 @@ module _ (threads : ℕ) (few : threads ≤ THREADS) where
       by (eqb (checkedOf s x .number) 0) (orderFrom m (set k (rowOf x) (p .counts)) xs) (order-names m (set k (rowOf x) (p .counts)) xs (f .1))
     where
       by : (b : Bool) (ys : List ℕ) → Below ys × Named ys → Below (pick b (replicate (planOf s x (countsOf k (rowOf x)) .steps) (rowOf x + 1) ++ ys) []) × Named (pick b (replicate (planOf s x (countsOf k (rowOf x)) .steps) (rowOf x + 1) ++ ys) [])
-      by true ys r = steps-name (planOf s x (countsOf k (rowOf x)) .steps) (rowOf x) ys (row-there x (f .0) .0) r
+      by true ys r = steps-name (planOf s x (countsOf k (rowOf x)) .steps) (rowOf x) ys (item-row threads few x (f .0)) r
       by false ys r = (tt, tt)
 
 -- a path has as many positions as its row had items

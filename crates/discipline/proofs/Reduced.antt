@@ -1,20 +1,19 @@
 -- Along a run that takes every item, the one-memory machine that follows the order stays coupled with the machine with buffers.
 use Prim.Native.Nat.{ℕ, _+_, _-_, _<_, _≤_}
-use mathlib.Core.Bool.{Bool, true, false}
-use mathlib.Core.Path.{_≡_, refl, sym, _∙_, ap, subst}
+use mathlib.Core.Bool.{true}
+use mathlib.Core.Path.{_≡_, sym, _∙_, ap, subst}
 use mathlib.Core.List.{List, [], _∷_, _++_}
 use native.Mathlib.Omega.{arith}
 use lib.ListN.{length, set, length-set, replicate}
-use lib.Dec.{leb}
-use borrow.Author.Tests.{le-leb, lt-leb, leb-true, leb-false, eq-eqb}
+use borrow.Author.Tests.{le-leb, lt-leb, eq-eqb}
 use Rattle.reader.specs.declared.state.Instruction.{Instruction}
 use Rattle.reader.specs.declared.state.State.{State}
 use Rattle.reader.specs.Limits.{THREADS}
 use Rattle.reader.specs.State.{positionOf}
-use Rattle.reader.specs.Rules.{pick, itemFits}
+use Rattle.reader.specs.Rules.{itemFits}
 use Rattle.machine.specs.Action.{nextOf}
 use Rattle.machine.specs.Plain.{plainOf}
-use Rattle.machine.proofs.Take.{drain-row, take-row}
+use Rattle.machine.proofs.Take.{by-kind}
 use Rattle.discipline.specs.Table.{isDirty}
 use Rattle.discipline.specs.Run.{Runnable}
 use Rattle.discipline.specs.Step.{nextMarks, checkedOf}
@@ -75,21 +74,20 @@ module _ {s : State} (g : Runnable s) (logs : ℕ → Log) (k : List (List ℕ))
       (subst (λ (y : Plan). Inv (program (s .code) (s .counts)) w (upd (countsOf k) t (y .counts)) (block (program (s .code) (s .counts)) (y .steps) t o)) q
       (sim-take (program (s .code) (s .counts)) (view s logs) (countsOf k) o t v (instruction-takes g h l logs z))))
 
+-- the row of an item
+row-drain : (t : ℕ) → rowOf (17 + t) ≡ t
+row-drain t = let b : 17 ≤ 17 + t = omega arith in rw (le-leb 17 (17 + t) b) (omega arith)
+
+row-take : (t : ℕ) → t < 16 → rowOf (1 + t) ≡ t
+row-take t h = let b : 1 + t < 17 = omega arith in rw (lt-leb 17 (1 + t) b) (omega arith)
+
 -- one item, whichever it is
-module _ {s : State} (g : Runnable s) (logs : ℕ → Log) (k : List (List ℕ)) (lk : length k ≡ THREADS) (o : Plain Local) (v : Inv (program (s .code) (s .counts)) (view s logs) (countsOf k) o) (x : ℕ) (f : itemFits (s .threads) x ≡ true) (z : checkedOf s x .number ≡ 0) where
-  pub item : After (s .code) (s .counts) s logs k o x × (rowOf x < s .threads)
-  item = by (leb 17 x) refl
-    where
-      by : (b : Bool) → leb 17 x ≡ b → After (s .code) (s .counts) s logs k o x × (pick b (x - 17) (x - 1) < s .threads)
-      by true e =
-          let l = leb-true 17 x e in
-          let h = drain-row (s .threads) x f l (g .inRange .threads) in
-          let q : 17 + (x - 17) ≡ x = omega arith in
-          (subst (λ (y : ℕ). After (s .code) (s .counts) s logs k o y) q (drain-item g logs k lk o v h (rw q z)), h)
-      by false e =
-          let r = take-row (s .threads) x f (leb-false 17 x e) in
-          let q : 1 + (x - 1) ≡ x = omega (arith, r .0) in
-          (subst (λ (y : ℕ). After (s .code) (s .counts) s logs k o y) q (take-item g logs k lk o v (r .1) (rw q z)), r .1)
+module _ {s : State} (g : Runnable s) (logs : ℕ → Log) (k : List (List ℕ)) (lk : length k ≡ THREADS) (o : Plain Local) (v : Inv (program (s .code) (s .counts)) (view s logs) (countsOf k) o) where
+  pub item : (x : ℕ) → itemFits (s .threads) x ≡ true → checkedOf s x .number ≡ 0 → After (s .code) (s .counts) s logs k o x
+  item = by-kind (s .threads) (g .inRange .threads) (λ x. checkedOf s x .number ≡ 0 → After (s .code) (s .counts) s logs k o x) (λ t h z. drain-item g logs k lk o v h z) (λ t h z. take-item g logs k lk o v h z)
+
+pub item-row : (threads : ℕ) → threads ≤ THREADS → (x : ℕ) → itemFits threads x ≡ true → rowOf x < threads
+item-row threads few = by-kind threads few (λ x. rowOf x < threads) (λ t h. rw (row-drain t) h) (λ t h. rw (row-take t (omega arith)) h)
 
 -- a run from s to m and the one-memory machine from o, with the logs, the counts and the programs that they share
 pub record Coupled (code : List Instruction) (counts : List ℕ) (s m o : State) (xs : List ℕ) (logs alone : ℕ → Log) (k : List (List ℕ)) : Type 0 where
@@ -111,13 +109,14 @@ module _ (code : List Instruction) (counts : List ℕ) where
   coupled {s} {m} (more {x = x} {xs = xs} z rest) o logs alone k lk g ec en w f v =
       let p = planOf s x (countsOf k (rowOf x)) in
       let i = item g logs k lk (plainView o alone) (rw (ec, en) v) x (f .0) z in
+      let h = item-row (s .threads) (g .inRange .threads) x (f .0) in
       let s′ = checkedOf s x .state in
       let q = checked-keeps g x (f .0) z in
       let now = replicate (p .steps) (rowOf x + 1) in
-      let b = steps-block code counts (p .steps) (rowOf x) o alone (w .runnable) (omega (arith, w .threads, i .1)) (w .code ∙ ec) (w .counts ∙ en) in
+      let b = steps-block code counts (p .steps) (rowOf x) o alone (w .runnable) (omega (arith, w .threads, h)) (w .code ∙ ec) (w .counts ∙ en) in
       let o′ = lastOf plainOf o now in
       let k′ = set k (rowOf x) (p .counts) in
-      let v′ : Inv (program code counts) (view s′ (logsAfter checkedOf s x logs)) (countsOf k′) (plainView o′ (logsOf plainOf o now alone)) = rw (b .1, ← ec, ← en) (i .0) in
+      let v′ : Inv (program code counts) (view s′ (logsAfter checkedOf s x logs)) (countsOf k′) (plainView o′ (logsOf plainOf o now alone)) = rw (b .1, ← ec, ← en) i in
       let w′ : Keeps s′ o′ = record { runnable = b .0 .runnable; code = b .0 .code ∙ w .code ∙ sym (q .code); counts = b .0 .counts ∙ w .counts ∙ sym (q .counts); threads = b .0 .threads ∙ w .threads ∙ sym (q .threads) } in
       let r = coupled rest o′ (logsAfter checkedOf s x logs) (logsOf plainOf o now alone) k′ (length-set k (rowOf x) (p .counts) ∙ lk) (q .runnable) (q .code ∙ ec) (q .counts ∙ en) w′ (rw (q .threads) (f .1)) v′ in
       record {

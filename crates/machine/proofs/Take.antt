@@ -2,12 +2,12 @@
 use Prim.Native.Nat.{ℕ, zero, suc, _+_, _-_, _≤_, _<_}
 use mathlib.Core.Bool.{Bool, true, false, _||_}
 use mathlib.Core.Logic.{_⊎_, inl, inr, ⊎-elim}
-use mathlib.Core.Path.{_≡_, refl, sym, ap, _∙_}
+use mathlib.Core.Path.{_≡_, refl, sym, ap, subst, _∙_}
 use mathlib.Core.List.{List}
 use native.Mathlib.Omega.{arith}
 use lib.Dec.{eqb, leb}
 use lib.IntN.{ℤ}
-use borrow.Author.Tests.{eqb-false, leb-false, lt-ltb, le-ltb}
+use borrow.Author.Tests.{eqb-false, leb-true, leb-false, lt-ltb, le-ltb}
 use Rattle.reader.specs.declared.state.Queue.{Queue}
 use Rattle.reader.specs.declared.state.Instruction.{Instruction}
 use Rattle.reader.specs.declared.state.State.{State}
@@ -89,6 +89,20 @@ module _ (threads x : ℕ) (e : itemFits threads x ≡ true) where
 
   pub take-row : x < 17 → (1 ≤ x) × (x - 1 < threads)
   take-row h = ⊎-elim (λ a. (a .0, omega arith)) (λ a. absurd (omega arith)) item-cases
+
+-- so what holds of every row's two items holds of every item that is right
+pub by-kind : (threads : ℕ) → threads ≤ THREADS → (P : ℕ → Type 0) → ((t : ℕ) → t < threads → P (17 + t)) → ((t : ℕ) → t < threads → P (1 + t)) → (x : ℕ) → itemFits threads x ≡ true → P x
+by-kind threads k P drains takes x f = go (leb 17 x) refl
+  where
+    go : (b : Bool) → leb 17 x ≡ b → P x
+    go true e =
+        let l = leb-true 17 x e in
+        let q : 17 + (x - 17) ≡ x = omega arith in
+        subst P q (drains (x - 17) (drain-row threads x f l k))
+    go false e =
+        let r = take-row threads x f (leb-false 17 x e) in
+        let q : 1 + (x - 1) ≡ x = omega (arith, r .0) in
+        subst P q (takes (x - 1) (r .1))
 
 -- a store is the only action that puts something into the buffer
 pub room : (v : Seen) (depth : ℕ) (q : Queue) (a : Action) → blockedOf depth q a ≡ 0 → effectOf v q a .pushes ≡ true → q .count < depth

@@ -5,11 +5,11 @@ use mathlib.Core.Path.{_≡_, refl}
 use mathlib.Core.List.{List, [], _∷_, _++_}
 use native.Mathlib.Omega.{arith}
 use native.Mathlib.Numerals.{add-one}
-use lib.Dec.{eqb, leb}
+use lib.Dec.{eqb}
 use lib.ListN.{length, take, drop, getD, set}
 use lib.Seq.{getD-set-other}
 use lib.IntN.{pos}
-use borrow.Author.Tests.{leb-true, leb-false, eqb-true, eqb-false}
+use borrow.Author.Tests.{eqb-true, eqb-false}
 use Rattle.reader.specs.declared.state.Pending.{Pending}
 use Rattle.reader.specs.declared.state.Queue.{Queue}
 use Rattle.reader.specs.declared.state.Instruction.{Instruction}
@@ -18,28 +18,27 @@ use Rattle.reader.specs.Limits.{REGISTERS}
 use Rattle.reader.specs.State.{noPending, outsideQueue, queueOf, registerPlace}
 use Rattle.reader.specs.Queue.{shifted, poppedOf}
 use Rattle.reader.specs.Drain.{oldestOf, drainedOf}
-use Rattle.reader.specs.Rules.{pick, itemFits}
+use Rattle.reader.specs.Rules.{itemFits}
 use Rattle.reader.specs.Range.{Shaped}
 use Rattle.machine.specs.declared.effect.Effect.{Effect}
 use Rattle.machine.specs.Action.{currentOf}
 use Rattle.machine.specs.Buffer.{afterOf}
-use Rattle.machine.specs.Effect.{cellOf, guard, tookOf}
-use Rattle.machine.specs.Run.{takenOf, unless}
-use Rattle.machine.specs.Step.{nextEffect, drainStep}
+use Rattle.machine.specs.Effect.{cellOf, tookOf}
+use Rattle.machine.specs.Step.{nextEffect}
 use Rattle.machine.proofs.Kept.{all-set}
-use Rattle.machine.proofs.Take.{current-in, current-cell, drain-row, take-row, row-below, row-few}
+use Rattle.machine.proofs.Take.{by-kind, current-in, current-cell, row-below, row-few}
 use Rattle.discipline.specs.declared.table.Held.{Held}
 use Rattle.discipline.specs.Table.{holdingOf}
 use Rattle.discipline.specs.Run.{Runnable}
-use Rattle.discipline.specs.Step.{nextMarks, checkedTake, checkedOf}
-use Rattle.discipline.proofs.Decided.{both-checked}
+use Rattle.discipline.specs.Step.{nextMarks, checkedOf}
 use Rattle.discipline.proofs.One.{stays-checked}
 use Rattle.stepping.specs.declared.step.After.{After}
 use Rattle.stepping.specs.Step.{steppedOf}
 use Rattle.stepping.specs.Beyond.{entryOf, Untouched}
 use Rattle.stepping.proofs.Exact.{range-in}
 use Rattle.stepping.proofs.Cases.{stepped-cases}
-use Rattle.stepping.proofs.Taken.{free}
+use Rattle.discipline.proofs.Outcomes.{pending-there, drain-taken, instruction-taken}
+use Rattle.discipline.proofs.Keeps.{taken-goes}
 
 same : (s : State) → Untouched s s
 same s = record {
@@ -122,27 +121,19 @@ module _ {s : State} (g : Runnable s) {t : ℕ} (h : t < s .threads) where
   }
 
 module _ {s : State} (g : Runnable s) where
-  drain-untouched : {t : ℕ} → t < s .threads → Untouched s (drainStep s t .state)
-  unfolding drainStep guard unless
-  drain-untouched {t} h = go (eqb (queueOf s t .count) 0) refl
-    where
-      go : (b : Bool) → eqb (queueOf s t .count) 0 ≡ b → Untouched s (unless (guard b 23 0) s (takenOf (drainedOf s t) (pos 0)) .state)
-      go true e = same s
-      go false e = drained-untouched g h (eqb-false _ _ e)
+  drain-untouched : {t : ℕ} → t < s .threads → checkedOf s (17 + t) .number ≡ 0 → Untouched s (checkedOf s (17 + t) .state)
+  drain-untouched {t} h z = rw (drain-taken s t z) (drained-untouched g h (pending-there s t z))
 
-  take-untouched : {t : ℕ} → t < s .threads → checkedTake s t .number ≡ 0 → Untouched s (checkedTake s t .state)
+  take-untouched : {t : ℕ} → t < s .threads → checkedOf s (1 + t) .number ≡ 0 → Untouched s (checkedOf s (1 + t) .state)
   take-untouched {t} h z =
-      let f = free s t z in
-      rw (both-checked s t (f .unblocked) (f .unbroken))
-      (took-untouched g h (currentOf s t) (nextEffect s t) (nextMarks s t) (current-cell (g .inRange) h (f .goes)) (current-in (g .inRange) h (f .goes) .register))
+      let n = g .inRange .threads in
+      let b : t < 16 = omega arith in
+      let l = taken-goes s t b z in
+      rw (instruction-taken s t b z)
+      (took-untouched g h (currentOf s t) (nextEffect s t) (nextMarks s t) (current-cell (g .inRange) h l) (current-in (g .inRange) h l .register))
 
   taken-untouched : (x : ℕ) → itemFits (s .threads) x ≡ true → checkedOf s x .number ≡ 0 → Untouched s (checkedOf s x .state)
-  unfolding checkedOf
-  taken-untouched x f z = go (leb 17 x) refl z
-    where
-      go : (b : Bool) → leb 17 x ≡ b → pick b (drainStep s (x - 17)) (checkedTake s (x - 1)) .number ≡ 0 → Untouched s (pick b (drainStep s (x - 17)) (checkedTake s (x - 1)) .state)
-      go true e z = drain-untouched (drain-row (s .threads) x f (leb-true _ _ e) (g .inRange .threads))
-      go false e z = take-untouched (take-row (s .threads) x f (leb-false _ _ e) .1) z
+  taken-untouched = by-kind (s .threads) (g .inRange .threads) (λ x. checkedOf s x .number ≡ 0 → Untouched s (checkedOf s x .state)) (λ t h z. drain-untouched h z) (λ t h z. take-untouched h z)
 
   checked-untouched : (x : ℕ) → itemFits (s .threads) x ≡ true → Untouched s (checkedOf s x .state)
   checked-untouched x f = go (eqb (checkedOf s x .number) 0) refl
