@@ -38,21 +38,36 @@ wide-requires c κs = omega arith
 
 mul-q : tie.Need-mul-q Inv-loop μ-loop
 mul-q c =
-    let h = drain-there (c .before .before .before .before .loop .inv .good) (c .before .before .before .before .before .before .pre .1 .0 (c .before .before .before .before .loop .k) (c .before .before .before .loop-test .taken)) (c .before .if1 .taken) (c .wide .ensures) in
-    let m = c .before .before .before .before .loop .inv .good .runnable .inRange .threads in
+    let drains = c .before in
+    let inside = drains .before .before in
+    let here = inside .before in
+    let begun = here .before .before in
+    let h = drain-there (here .loop .inv .good) (begun .pre .1 .0 (here .loop .k) (inside .loop-test .taken)) (drains .if1 .taken) (c .wide .ensures) in
+    let m = here .loop .inv .good .runnable .inRange .threads in
     omega arith
 
 element-copy-out-q : tie.Need-element-copy-out-q Inv-loop μ-loop
 element-copy-out-q c =
-    let h = drain-there (c .before .before .before .before .loop .inv .good) (c .before .before .before .before .before .before .pre .1 .0 (c .before .before .before .before .loop .k) (c .before .before .before .loop-test .taken)) (c .before .if1 .taken) (c .wide .ensures) in
-    let m = c .before .before .before .before .loop .inv .good .runnable .inRange .threads in
+    let drains = c .before in
+    let inside = drains .before .before in
+    let here = inside .before in
+    let begun = here .before .before in
+    let h = drain-there (here .loop .inv .good) (begun .pre .1 .0 (here .loop .k) (inside .loop-test .taken)) (drains .if1 .taken) (c .wide .ensures) in
+    let m = here .loop .inv .good .runnable .inRange .threads in
     omega arith
 
 same-length : tie.Need-same-length Inv-loop μ-loop
-same-length c = c .before .before .before .before .before .before .loop .inv .long
+same-length c =
+    let here = c .before .before .before .before .before .before in
+    here .loop .inv .long
 
 returns : tie.Need-returns Inv-loop μ-loop
-returns c = stopped checkedOf (c .before .before .before .before .before .before .loop .inv) _ (empty-drain _ (c .before .before .before .if1 .taken) (c .before .before .wide .ensures) (c .if2 .taken)) (c .before .before .before .before .before .loop-test .taken) (λ z. omega arith)
+returns c =
+    let at-wide = c .before .before in
+    let drains = at-wide .before in
+    let inside = drains .before .before in
+    let here = inside .before in
+    stopped checkedOf (here .loop .inv) _ (empty-drain _ (drains .if1 .taken) (at-wide .wide .ensures) (c .if2 .taken)) (inside .loop-test .taken) (λ z. omega arith)
 
 element-copy-out-oldest : tie.Need-element-copy-out-oldest Inv-loop μ-loop
 element-copy-out-oldest c = omega arith
@@ -62,41 +77,75 @@ cast-c c = omega arith
 
 popped-requires : tie.Need-popped-requires Inv-loop μ-loop
 popped-requires c κs =
-    let k = row-drainable (c .before .before .before .before .before .before .before .before .before .loop .inv .good .runnable .inRange) (drain-there (c .before .before .before .before .before .before .before .before .before .loop .inv .good) (c .before .before .before .before .before .before .before .before .before .before .before .pre .1 .0 (c .before .before .before .before .before .before .before .before .before .loop .k) (c .before .before .before .before .before .before .before .before .loop-test .taken)) (c .before .before .before .before .before .before .if1 .taken) (c .before .before .before .before .before .wide .ensures)) (c .before .before .before .if2 .left) in
+    let some = c .before .before .before in
+    let at-wide = some .before .before in
+    let drains = at-wide .before in
+    let inside = drains .before .before in
+    let here = inside .before in
+    let begun = here .before .before in
+    let k = row-drainable (here .loop .inv .good .runnable .inRange) (drain-there (here .loop .inv .good) (begun .pre .1 .0 (here .loop .k) (inside .loop-test .taken)) (drains .if1 .taken) (at-wide .wide .ensures)) (some .if2 .left) in
     (k .some, k .few)
 
 mul-word : tie.Need-mul-word Inv-loop μ-loop
 mul-word c =
-    let k = row-drainable (c .before .before .before .before .before .before .before .before .before .before .loop .inv .good .runnable .inRange) (drain-there (c .before .before .before .before .before .before .before .before .before .before .loop .inv .good) (c .before .before .before .before .before .before .before .before .before .before .before .before .pre .1 .0 (c .before .before .before .before .before .before .before .before .before .before .loop .k) (c .before .before .before .before .before .before .before .before .before .loop-test .taken)) (c .before .before .before .before .before .before .before .if1 .taken) (c .before .before .before .before .before .before .wide .ensures)) (c .before .before .before .before .if2 .left) in
+    let some = c .before .before .before .before in
+    let at-wide = some .before .before in
+    let drains = at-wide .before in
+    let inside = drains .before .before in
+    let here = inside .before in
+    let begun = here .before .before in
+    let k = row-drainable (here .loop .inv .good .runnable .inRange) (drain-there (here .loop .inv .good) (begun .pre .1 .0 (here .loop .k) (inside .loop-test .taken)) (drains .if1 .taken) (at-wide .wide .ensures)) (some .if2 .left) in
     let h = k .cell in
     omega arith
 
 element-set-from-word : tie.Need-element-set-from-word Inv-loop μ-loop
 element-set-from-word c =
-    let k = row-drainable (c .before .before .before .before .before .before .before .before .before .before .loop .inv .good .runnable .inRange) (drain-there (c .before .before .before .before .before .before .before .before .before .before .loop .inv .good) (c .before .before .before .before .before .before .before .before .before .before .before .before .pre .1 .0 (c .before .before .before .before .before .before .before .before .before .before .loop .k) (c .before .before .before .before .before .before .before .before .before .loop-test .taken)) (c .before .before .before .before .before .before .before .if1 .taken) (c .before .before .before .before .before .before .wide .ensures)) (c .before .before .before .before .if2 .left) in
+    let some = c .before .before .before .before in
+    let at-wide = some .before .before in
+    let drains = at-wide .before in
+    let inside = drains .before .before in
+    let here = inside .before in
+    let begun = here .before .before in
+    let k = row-drainable (here .loop .inv .good .runnable .inRange) (drain-there (here .loop .inv .good) (begun .pre .1 .0 (here .loop .k) (inside .loop-test .taken)) (drains .if1 .taken) (at-wide .wide .ensures)) (some .if2 .left) in
     let h = k .cell in
     omega arith
 
 mul-row : tie.Need-mul-row Inv-loop μ-loop
 mul-row c =
-    let h = drain-there (c .before .before .before .before .before .before .before .before .before .before .loop .inv .good) (c .before .before .before .before .before .before .before .before .before .before .before .before .pre .1 .0 (c .before .before .before .before .before .before .before .before .before .before .loop .k) (c .before .before .before .before .before .before .before .before .before .loop-test .taken)) (c .before .before .before .before .before .before .before .if1 .taken) (c .before .before .before .before .before .before .wide .ensures) in
-    let m = c .before .before .before .before .before .before .before .before .before .before .loop .inv .good .runnable .inRange .threads in
+    let at-wide = c .before .before .before .before .before .before in
+    let drains = at-wide .before in
+    let inside = drains .before .before in
+    let here = inside .before in
+    let begun = here .before .before in
+    let h = drain-there (here .loop .inv .good) (begun .pre .1 .0 (here .loop .k) (inside .loop-test .taken)) (drains .if1 .taken) (at-wide .wide .ensures) in
+    let m = here .loop .inv .good .runnable .inRange .threads in
     omega arith
 
 element-set-from-row : tie.Need-element-set-from-row Inv-loop μ-loop
 element-set-from-row c =
-    let h = drain-there (c .before .before .before .before .before .before .before .before .before .before .loop .inv .good) (c .before .before .before .before .before .before .before .before .before .before .before .before .pre .1 .0 (c .before .before .before .before .before .before .before .before .before .before .loop .k) (c .before .before .before .before .before .before .before .before .before .loop-test .taken)) (c .before .before .before .before .before .before .before .if1 .taken) (c .before .before .before .before .before .before .wide .ensures) in
-    let m = c .before .before .before .before .before .before .before .before .before .before .loop .inv .good .runnable .inRange .threads in
+    let at-wide = c .before .before .before .before .before .before in
+    let drains = at-wide .before in
+    let inside = drains .before .before in
+    let here = inside .before in
+    let begun = here .before .before in
+    let h = drain-there (here .loop .inv .good) (begun .pre .1 .0 (here .loop .k) (inside .loop-test .taken)) (drains .if1 .taken) (at-wide .wide .ensures) in
+    let m = here .loop .inv .good .runnable .inRange .threads in
     omega arith
 
 mul-values : tie.Need-mul-values Inv-loop μ-loop
-mul-values c = let s = c .before .before .before .before .before .before .before .before .before .before .before .before in omega (arith, s .good .1 .1 .0 .1, s .pre .1 .1, (c .before .before .before .before .before .before .before .before .before .loop-test .taken))
+mul-values c =
+    let inside = c .before .before .before .before .before .before .before .before .before in
+    let begun = inside .before .before .before in
+    let s = begun in omega (arith, s .good .1 .1 .0 .1, s .pre .1 .1, (inside .loop-test .taken))
 
 slice-set-of-values : tie.Need-slice-set-of-values Inv-loop μ-loop
 slice-set-of-values c =
-    let l = c .before .before .before .before .before .before .before .before .before .before .loop .inv .long in
-    let s = c .before .before .before .before .before .before .before .before .before .before .before .before in
-    omega (arith, s .pre .1 .1, (c .before .before .before .before .before .before .before .before .before .loop-test .taken))
+    let inside = c .before .before .before .before .before .before .before .before .before in
+    let here = inside .before in
+    let begun = here .before .before in
+    let l = here .loop .inv .long in
+    let s = begun in
+    omega (arith, s .pre .1 .1, (inside .loop-test .taken))
 
 add-k : tie.Need-add-k Inv-loop μ-loop
 add-k c = omega arith
@@ -106,80 +155,142 @@ loop-less c = omega arith
 
 loop-again : tie.Need-loop-again Inv-loop μ-loop
 loop-again c =
-    let l = c .before .before .before .before .before .before .before .before .before .before .loop in
-    let q = c .before .before .before .before .before .before .wide .result in
+    let some = c .before .before .before .before in
+    let at-wide = some .before .before in
+    let drains = at-wide .before in
+    let inside = drains .before .before in
+    let here = inside .before in
+    let begun = here .before .before in
+    let l = here .loop in
+    let q = at-wide .wide .result in
     let zw : toZ w32 (ofZ w32 (oldestOf (l .s) q .value)) ≡ oldestOf (l .s) q .value = search needs in
     drained-placed (l .s) q (l .k) (l .values) zw (c .popped .ensures)
-    (turn checkedOf (l .inv) _ (taken-drain (l .s) (c .before .before .before .before .before .before .before .if1 .taken) (c .before .before .before .before .before .before .wide .ensures) (c .before .before .before .before .if2 .left)) (c .before .before .before .before .before .before .before .before .before .loop-test .taken) (c .before .before .before .before .before .before .before .before .before .before .before .before .pre .1 .1) refl (good-drained (l .inv .good) (drain-there (c .before .before .before .before .before .before .before .before .before .before .loop .inv .good) (c .before .before .before .before .before .before .before .before .before .before .before .before .pre .1 .0 (c .before .before .before .before .before .before .before .before .before .before .loop .k) (c .before .before .before .before .before .before .before .before .before .loop-test .taken)) (c .before .before .before .before .before .before .before .if1 .taken) (c .before .before .before .before .before .before .wide .ensures)) (c .before .before .before .before .if2 .left)))
+    (turn checkedOf (l .inv) _ (taken-drain (l .s) (drains .if1 .taken) (at-wide .wide .ensures) (some .if2 .left)) (inside .loop-test .taken) (begun .pre .1 .1) refl (good-drained (l .inv .good) (drain-there (here .loop .inv .good) (begun .pre .1 .0 (here .loop .k) (inside .loop-test .taken)) (drains .if1 .taken) (at-wide .wide .ensures)) (some .if2 .left)))
 
 sub-wide : tie.Need-sub-wide Inv-loop μ-loop
-sub-wide c = take-there (c .before .before .before .loop .inv .good) {t = 0} (c .before .before .before .before .before .pre .1 .0 (c .before .before .before .loop .k) (c .before .before .loop-test .taken)) (c .if1 .left) .0
+sub-wide c =
+    let inside = c .before .before in
+    let here = inside .before in
+    let begun = here .before .before in
+    take-there (here .loop .inv .good) {t = 0} (begun .pre .1 .0 (here .loop .k) (inside .loop-test .taken)) (c .if1 .left) .0
 
 wide-requires-2 : tie.Need-wide-requires-2 Inv-loop μ-loop
 wide-requires-2 c κs = omega arith
 
 mul-at : tie.Need-mul-at Inv-loop μ-loop
 mul-at c =
-    let h = take-there (c .before .before .before .before .loop .inv .good) (c .before .before .before .before .before .before .pre .1 .0 (c .before .before .before .before .loop .k) (c .before .before .before .loop-test .taken)) (c .before .if1 .left) .1 (c .wide2 .ensures) in
-    let m = c .before .before .before .before .loop .inv .good .runnable .inRange .threads in
+    let takes = c .before in
+    let inside = takes .before .before in
+    let here = inside .before in
+    let begun = here .before .before in
+    let h = take-there (here .loop .inv .good) (begun .pre .1 .0 (here .loop .k) (inside .loop-test .taken)) (takes .if1 .left) .1 (c .wide2 .ensures) in
+    let m = here .loop .inv .good .runnable .inRange .threads in
     omega arith
 
 element-copy-out-at : tie.Need-element-copy-out-at Inv-loop μ-loop
 element-copy-out-at c =
-    let h = take-there (c .before .before .before .before .loop .inv .good) (c .before .before .before .before .before .before .pre .1 .0 (c .before .before .before .before .loop .k) (c .before .before .before .loop-test .taken)) (c .before .if1 .left) .1 (c .wide2 .ensures) in
-    let m = c .before .before .before .before .loop .inv .good .runnable .inRange .threads in
+    let takes = c .before in
+    let inside = takes .before .before in
+    let here = inside .before in
+    let begun = here .before .before in
+    let h = take-there (here .loop .inv .good) (begun .pre .1 .0 (here .loop .k) (inside .loop-test .taken)) (takes .if1 .left) .1 (c .wide2 .ensures) in
+    let m = here .loop .inv .good .runnable .inRange .threads in
     omega arith
 
 mul-end : tie.Need-mul-end Inv-loop μ-loop
 mul-end c =
-    let h = take-there (c .before .before .before .before .before .loop .inv .good) (c .before .before .before .before .before .before .before .pre .1 .0 (c .before .before .before .before .before .loop .k) (c .before .before .before .before .loop-test .taken)) (c .before .before .if1 .left) .1 (c .before .wide2 .ensures) in
-    let m = c .before .before .before .before .before .loop .inv .good .runnable .inRange .threads in
+    let at-wide2 = c .before in
+    let takes = at-wide2 .before in
+    let inside = takes .before .before in
+    let here = inside .before in
+    let begun = here .before .before in
+    let h = take-there (here .loop .inv .good) (begun .pre .1 .0 (here .loop .k) (inside .loop-test .taken)) (takes .if1 .left) .1 (at-wide2 .wide2 .ensures) in
+    let m = here .loop .inv .good .runnable .inRange .threads in
     omega arith
 
 element-copy-out-end : tie.Need-element-copy-out-end Inv-loop μ-loop
 element-copy-out-end c =
-    let h = take-there (c .before .before .before .before .before .loop .inv .good) (c .before .before .before .before .before .before .before .pre .1 .0 (c .before .before .before .before .before .loop .k) (c .before .before .before .before .loop-test .taken)) (c .before .before .if1 .left) .1 (c .before .wide2 .ensures) in
-    let m = c .before .before .before .before .before .loop .inv .good .runnable .inRange .threads in
+    let at-wide2 = c .before in
+    let takes = at-wide2 .before in
+    let inside = takes .before .before in
+    let here = inside .before in
+    let begun = here .before .before in
+    let h = take-there (here .loop .inv .good) (begun .pre .1 .0 (here .loop .k) (inside .loop-test .taken)) (takes .if1 .left) .1 (at-wide2 .wide2 .ensures) in
+    let m = here .loop .inv .good .runnable .inRange .threads in
     omega arith
 
 same-length-2 : tie.Need-same-length-2 Inv-loop μ-loop
-same-length-2 c = c .before .before .before .before .before .before .before .loop .inv .long
+same-length-2 c =
+    let here = c .before .before .before .before .before .before .before in
+    here .loop .inv .long
 
 returns-2 : tie.Need-returns-2 Inv-loop μ-loop
-returns-2 c = stopped checkedOf (c .before .before .before .before .before .before .before .loop .inv) _ (end-checked _ _ (c .if3 .taken) ∙ take-item _ (c .before .before .before .before .if1 .left) (c .before .before .before .wide2 .ensures)) (c .before .before .before .before .before .before .loop-test .taken) (λ z. omega arith)
+returns-2 c =
+    let at-wide2 = c .before .before .before in
+    let takes = at-wide2 .before in
+    let inside = takes .before .before in
+    let here = inside .before in
+    stopped checkedOf (here .loop .inv) _ (end-checked _ _ (c .if3 .taken) ∙ take-item _ (takes .if1 .left) (at-wide2 .wide2 .ensures)) (inside .loop-test .taken) (λ z. omega arith)
 
 code-place-requires : tie.Need-code-place-requires Inv-loop μ-loop
 code-place-requires c κs =
-    let g = c .before .before .before .before .before .before .before .loop .inv .good .runnable .inRange in
-    let h = take-there (c .before .before .before .before .before .before .before .loop .inv .good) (c .before .before .before .before .before .before .before .before .before .pre .1 .0 (c .before .before .before .before .before .before .before .loop .k) (c .before .before .before .before .before .before .loop-test .taken)) (c .before .before .before .before .if1 .left) .1 (c .before .before .before .wide2 .ensures) in
+    let at-wide2 = c .before .before .before in
+    let takes = at-wide2 .before in
+    let inside = takes .before .before in
+    let here = inside .before in
+    let begun = here .before .before in
+    let g = here .loop .inv .good .runnable .inRange in
+    let h = take-there (here .loop .inv .good) (begun .pre .1 .0 (here .loop .k) (inside .loop-test .taken)) (takes .if1 .left) .1 (at-wide2 .wide2 .ensures) in
     (row-below g h, position-below g h (c .if3 .left))
 
 mul-i : tie.Need-mul-i Inv-loop μ-loop
 mul-i c =
-    let h = take-there (c .before .before .before .before .before .before .before .before .loop .inv .good) (c .before .before .before .before .before .before .before .before .before .before .pre .1 .0 (c .before .before .before .before .before .before .before .before .loop .k) (c .before .before .before .before .before .before .before .loop-test .taken)) (c .before .before .before .before .before .if1 .left) .1 (c .before .before .before .before .wide2 .ensures) in
-    let m = c .before .before .before .before .before .before .before .before .loop .inv .good .runnable .inRange .threads in
-    let p = position-below (c .before .before .before .before .before .before .before .before .loop .inv .good .runnable .inRange) h (c .before .if3 .left) in
+    let going = c .before in
+    let at-wide2 = going .before .before .before in
+    let takes = at-wide2 .before in
+    let inside = takes .before .before in
+    let here = inside .before in
+    let begun = here .before .before in
+    let h = take-there (here .loop .inv .good) (begun .pre .1 .0 (here .loop .k) (inside .loop-test .taken)) (takes .if1 .left) .1 (at-wide2 .wide2 .ensures) in
+    let m = here .loop .inv .good .runnable .inRange .threads in
+    let p = position-below (here .loop .inv .good .runnable .inRange) h (going .if3 .left) in
     let e = c .code-place .ensures in
     omega arith
 
 element-copy-out-i : tie.Need-element-copy-out-i Inv-loop μ-loop
 element-copy-out-i c =
-    let h = take-there (c .before .before .before .before .before .before .before .before .loop .inv .good) (c .before .before .before .before .before .before .before .before .before .before .pre .1 .0 (c .before .before .before .before .before .before .before .before .loop .k) (c .before .before .before .before .before .before .before .loop-test .taken)) (c .before .before .before .before .before .if1 .left) .1 (c .before .before .before .before .wide2 .ensures) in
-    let m = c .before .before .before .before .before .before .before .before .loop .inv .good .runnable .inRange .threads in
-    let p = position-below (c .before .before .before .before .before .before .before .before .loop .inv .good .runnable .inRange) h (c .before .if3 .left) in
+    let going = c .before in
+    let at-wide2 = going .before .before .before in
+    let takes = at-wide2 .before in
+    let inside = takes .before .before in
+    let here = inside .before in
+    let begun = here .before .before in
+    let h = take-there (here .loop .inv .good) (begun .pre .1 .0 (here .loop .k) (inside .loop-test .taken)) (takes .if1 .left) .1 (at-wide2 .wide2 .ensures) in
+    let m = here .loop .inv .good .runnable .inRange .threads in
+    let p = position-below (here .loop .inv .good .runnable .inRange) h (going .if3 .left) in
     let e = c .code-place .ensures in
     omega arith
 
 mul-q-2 : tie.Need-mul-q-2 Inv-loop μ-loop
 mul-q-2 c =
-    let h = take-there (c .before .before .before .before .before .before .before .before .before .loop .inv .good) (c .before .before .before .before .before .before .before .before .before .before .before .pre .1 .0 (c .before .before .before .before .before .before .before .before .before .loop .k) (c .before .before .before .before .before .before .before .before .loop-test .taken)) (c .before .before .before .before .before .before .if1 .left) .1 (c .before .before .before .before .before .wide2 .ensures) in
-    let m = c .before .before .before .before .before .before .before .before .before .loop .inv .good .runnable .inRange .threads in
+    let at-wide2 = c .before .before .before .before .before in
+    let takes = at-wide2 .before in
+    let inside = takes .before .before in
+    let here = inside .before in
+    let begun = here .before .before in
+    let h = take-there (here .loop .inv .good) (begun .pre .1 .0 (here .loop .k) (inside .loop-test .taken)) (takes .if1 .left) .1 (at-wide2 .wide2 .ensures) in
+    let m = here .loop .inv .good .runnable .inRange .threads in
     omega arith
 
 element-copy-out-q-2 : tie.Need-element-copy-out-q-2 Inv-loop μ-loop
 element-copy-out-q-2 c =
-    let h = take-there (c .before .before .before .before .before .before .before .before .before .loop .inv .good) (c .before .before .before .before .before .before .before .before .before .before .before .pre .1 .0 (c .before .before .before .before .before .before .before .before .before .loop .k) (c .before .before .before .before .before .before .before .before .loop-test .taken)) (c .before .before .before .before .before .before .if1 .left) .1 (c .before .before .before .before .before .wide2 .ensures) in
-    let m = c .before .before .before .before .before .before .before .before .before .loop .inv .good .runnable .inRange .threads in
+    let at-wide2 = c .before .before .before .before .before in
+    let takes = at-wide2 .before in
+    let inside = takes .before .before in
+    let here = inside .before in
+    let begun = here .before .before in
+    let h = take-there (here .loop .inv .good) (begun .pre .1 .0 (here .loop .k) (inside .loop-test .taken)) (takes .if1 .left) .1 (at-wide2 .wide2 .ensures) in
+    let m = here .loop .inv .good .runnable .inRange .threads in
     omega arith
 
 is-acquire-requires : tie.Need-is-acquire-requires Inv-loop μ-loop
@@ -189,24 +300,51 @@ cast-is-elsewhere : tie.Need-cast-is-elsewhere Inv-loop μ-loop
 cast-is-elsewhere c = omega arith
 
 is-elsewhere-requires : tie.Need-is-elsewhere-requires Inv-loop μ-loop
-is-elsewhere-requires c κs = rows-in (c .before .before .before .before .before .before .before .before .before .before .before .before .before .before .loop .inv .good .runnable .inRange)
+is-elsewhere-requires c κs =
+    let here = c .before .before .before .before .before .before .before .before .before .before .before .before .before .before in
+    rows-in (here .loop .inv .good .runnable .inRange)
 
 decided-requires : tie.Need-decided-requires Inv-loop μ-loop
-decided-requires c κs = decidable-in (c .before .before .before .before .before .before .before .before .before .before .before .before .before .before .before .before .before .before .loop .inv .good .runnable .inRange) (take-there (c .before .before .before .before .before .before .before .before .before .before .before .before .before .before .before .before .before .before .loop .inv .good) (c .before .before .before .before .before .before .before .before .before .before .before .before .before .before .before .before .before .before .before .before .pre .1 .0 (c .before .before .before .before .before .before .before .before .before .before .before .before .before .before .before .before .before .before .loop .k) (c .before .before .before .before .before .before .before .before .before .before .before .before .before .before .before .before .before .loop-test .taken)) (c .before .before .before .before .before .before .before .before .before .before .before .before .before .before .before .if1 .left) .1 (c .before .before .before .before .before .before .before .before .before .before .before .before .before .before .wide2 .ensures)) (c .before .before .before .before .before .before .before .before .before .before .before .if3 .left) (ap (λ (p : ℕ). getD (c .before .before .before .before .before .before .before .before .before .before .before .before .before .before .before .before .before .before .loop .s .code) p noInstruction) (c .before .before .before .before .before .before .before .before .before .before .code-place .ensures))
+decided-requires c κs =
+    let at-code-place = c .before .before .before .before .before .before .before .before .before .before in
+    let going = at-code-place .before in
+    let at-wide2 = going .before .before .before in
+    let takes = at-wide2 .before in
+    let inside = takes .before .before in
+    let here = inside .before in
+    let begun = here .before .before in
+    decidable-in (here .loop .inv .good .runnable .inRange) (take-there (here .loop .inv .good) (begun .pre .1 .0 (here .loop .k) (inside .loop-test .taken)) (takes .if1 .left) .1 (at-wide2 .wide2 .ensures)) (going .if3 .left) (ap (λ (p : ℕ). getD (here .loop .s .code) p noInstruction) (at-code-place .code-place .ensures))
 
 same-length-3 : tie.Need-same-length-3 Inv-loop μ-loop
-same-length-3 c = c .before .before .before .before .before .before .before .before .before .before .before .before .before .before .before .before .before .before .before .before .before .loop .inv .long
+same-length-3 c =
+    let here = c .before .before .before .before .before .before .before .before .before .before .before .before .before .before .before .before .before .before .before .before .before in
+    here .loop .inv .long
 
 returns-3 : tie.Need-returns-3 Inv-loop μ-loop
-returns-3 c = stopped checkedOf (c .before .before .before .before .before .before .before .before .before .before .before .before .before .before .before .before .before .before .before .before .before .loop .inv) _ (refused-checked (c .before .before .before .before .before .before .before .before .before .before .before .before .before .before .before .before .before .before .before .before .before .loop .inv .good .runnable .inRange) (take-there (c .before .before .before .before .before .before .before .before .before .before .before .before .before .before .before .before .before .before .before .before .before .loop .inv .good) (c .before .before .before .before .before .before .before .before .before .before .before .before .before .before .before .before .before .before .before .before .before .before .before .pre .1 .0 (c .before .before .before .before .before .before .before .before .before .before .before .before .before .before .before .before .before .before .before .before .before .loop .k) (c .before .before .before .before .before .before .before .before .before .before .before .before .before .before .before .before .before .before .before .before .loop-test .taken)) (c .before .before .before .before .before .before .before .before .before .before .before .before .before .before .before .before .before .before .if1 .left) .1 (c .before .before .before .before .before .before .before .before .before .before .before .before .before .before .before .before .before .wide2 .ensures)) (c .before .before .before .before .before .before .before .before .before .before .before .before .before .before .if3 .left) (ap (λ (p : ℕ). getD (c .before .before .before .before .before .before .before .before .before .before .before .before .before .before .before .before .before .before .before .before .before .loop .s .code) p noInstruction) (c .before .before .before .before .before .before .before .before .before .before .before .before .before .code-place .ensures)) (came (c .before .before .before .before .before .before .before .before .before)) (c .before .before .decided .ensures) (c .if5 .taken) ∙ take-item _ (c .before .before .before .before .before .before .before .before .before .before .before .before .before .before .before .before .before .before .if1 .left) (c .before .before .before .before .before .before .before .before .before .before .before .before .before .before .before .before .before .wide2 .ensures)) (c .before .before .before .before .before .before .before .before .before .before .before .before .before .before .before .before .before .before .before .before .loop-test .taken) (c .if5 .taken)
+returns-3 c =
+    let at-decided = c .before .before in
+    let met = at-decided .before .before .before .before .before .before .before in
+    let at-code-place = met .before .before .before .before in
+    let going = at-code-place .before in
+    let at-wide2 = going .before .before .before in
+    let takes = at-wide2 .before in
+    let inside = takes .before .before in
+    let here = inside .before in
+    let begun = here .before .before in
+    stopped checkedOf (here .loop .inv) _ (refused-checked (here .loop .inv .good .runnable .inRange) (take-there (here .loop .inv .good) (begun .pre .1 .0 (here .loop .k) (inside .loop-test .taken)) (takes .if1 .left) .1 (at-wide2 .wide2 .ensures)) (going .if3 .left) (ap (λ (p : ℕ). getD (here .loop .s .code) p noInstruction) (at-code-place .code-place .ensures)) (came met) (at-decided .decided .ensures) (c .if5 .taken) ∙ take-item _ (takes .if1 .left) (at-wide2 .wide2 .ensures)) (inside .loop-test .taken) (c .if5 .taken)
 
 cell-of-requires : tie.Need-cell-of-requires Inv-loop μ-loop
 cell-of-requires c κs = omega arith
 
 register-place-requires : tie.Need-register-place-requires Inv-loop μ-loop
 register-place-requires c κs =
-    let h = take-there (c .before .before .before .before .before .before .before .before .before .before .before .before .before .before .before .before .before .before .before .before .before .before .before .before .loop .inv .good) (c .before .before .before .before .before .before .before .before .before .before .before .before .before .before .before .before .before .before .before .before .before .before .before .before .before .before .pre .1 .0 (c .before .before .before .before .before .before .before .before .before .before .before .before .before .before .before .before .before .before .before .before .before .before .before .before .loop .k) (c .before .before .before .before .before .before .before .before .before .before .before .before .before .before .before .before .before .before .before .before .before .before .before .loop-test .taken)) (c .before .before .before .before .before .before .before .before .before .before .before .before .before .before .before .before .before .before .before .before .before .if1 .left) .1 (c .before .before .before .before .before .before .before .before .before .before .before .before .before .before .before .before .before .before .before .before .wide2 .ensures) in
-    let m = c .before .before .before .before .before .before .before .before .before .before .before .before .before .before .before .before .before .before .before .before .before .before .before .before .loop .inv .good .runnable .inRange .threads in
+    let at-wide2 = c .before .before .before .before .before .before .before .before .before .before .before .before .before .before .before .before .before .before .before .before in
+    let takes = at-wide2 .before in
+    let inside = takes .before .before in
+    let here = inside .before in
+    let begun = here .before .before in
+    let h = take-there (here .loop .inv .good) (begun .pre .1 .0 (here .loop .k) (inside .loop-test .taken)) (takes .if1 .left) .1 (at-wide2 .wide2 .ensures) in
+    let m = here .loop .inv .good .runnable .inRange .threads in
     omega arith
 
 cast-t71 : tie.Need-cast-t71 Inv-loop μ-loop
@@ -214,108 +352,217 @@ cast-t71 c = omega arith
 
 after-requires : tie.Need-after-requires Inv-loop μ-loop
 after-requires c κs =
-    let m = c .before .before .before .before .before .before .before .before .before .before .before .before .before .before .before .before .before .before .before .before .before .before .before .before .before .before .before .loop .inv .good .runnable .inRange .depth in
-    λ b. let r = good-room (c .before .before .before .before .before .before .before .before .before .before .before .before .before .before .before .before .before .before .before .before .before .before .before .before .before .before .before .loop .inv .good) (take-there (c .before .before .before .before .before .before .before .before .before .before .before .before .before .before .before .before .before .before .before .before .before .before .before .before .before .before .before .loop .inv .good) (c .before .before .before .before .before .before .before .before .before .before .before .before .before .before .before .before .before .before .before .before .before .before .before .before .before .before .before .before .before .pre .1 .0 (c .before .before .before .before .before .before .before .before .before .before .before .before .before .before .before .before .before .before .before .before .before .before .before .before .before .before .before .loop .k) (c .before .before .before .before .before .before .before .before .before .before .before .before .before .before .before .before .before .before .before .before .before .before .before .before .before .before .loop-test .taken)) (c .before .before .before .before .before .before .before .before .before .before .before .before .before .before .before .before .before .before .before .before .before .before .before .before .if1 .left) .1 (c .before .before .before .before .before .before .before .before .before .before .before .before .before .before .before .before .before .before .before .before .before .before .before .wide2 .ensures)) (c .before .before .before .before .before .before .before .before .before .before .before .before .before .before .before .before .before .before .before .before .if3 .left) (ap (λ (p : ℕ). getD (c .before .before .before .before .before .before .before .before .before .before .before .before .before .before .before .before .before .before .before .before .before .before .before .before .before .before .before .loop .s .code) p noInstruction) (c .before .before .before .before .before .before .before .before .before .before .before .before .before .before .before .before .before .before .before .code-place .ensures)) (came (c .before .before .before .before .before .before .before .before .before .before .before .before .before .before .before)) (c .before .before .before .before .before .before .before .before .decided .ensures) (c .before .before .before .before .before .before .if5 .left) b in omega arith
+    let unstopped = c .before .before .before .before .before .before in
+    let at-decided = unstopped .before .before in
+    let met = at-decided .before .before .before .before .before .before .before in
+    let at-code-place = met .before .before .before .before in
+    let going = at-code-place .before in
+    let at-wide2 = going .before .before .before in
+    let takes = at-wide2 .before in
+    let inside = takes .before .before in
+    let here = inside .before in
+    let begun = here .before .before in
+    let m = here .loop .inv .good .runnable .inRange .depth in
+    λ b. let r = good-room (here .loop .inv .good) (take-there (here .loop .inv .good) (begun .pre .1 .0 (here .loop .k) (inside .loop-test .taken)) (takes .if1 .left) .1 (at-wide2 .wide2 .ensures)) (going .if3 .left) (ap (λ (p : ℕ). getD (here .loop .s .code) p noInstruction) (at-code-place .code-place .ensures)) (came met) (at-decided .decided .ensures) (unstopped .if5 .left) b in omega arith
 
 mul-row-2 : tie.Need-mul-row-2 Inv-loop μ-loop
 mul-row-2 c =
-    let h = take-there (c .before .before .before .before .before .before .before .before .before .before .before .before .before .before .before .before .before .before .before .before .before .before .before .before .before .before .before .before .before .before .before .loop .inv .good) (c .before .before .before .before .before .before .before .before .before .before .before .before .before .before .before .before .before .before .before .before .before .before .before .before .before .before .before .before .before .before .before .before .before .pre .1 .0 (c .before .before .before .before .before .before .before .before .before .before .before .before .before .before .before .before .before .before .before .before .before .before .before .before .before .before .before .before .before .before .before .loop .k) (c .before .before .before .before .before .before .before .before .before .before .before .before .before .before .before .before .before .before .before .before .before .before .before .before .before .before .before .before .before .before .loop-test .taken)) (c .before .before .before .before .before .before .before .before .before .before .before .before .before .before .before .before .before .before .before .before .before .before .before .before .before .before .before .before .if1 .left) .1 (c .before .before .before .before .before .before .before .before .before .before .before .before .before .before .before .before .before .before .before .before .before .before .before .before .before .before .before .wide2 .ensures) in
-    let m = c .before .before .before .before .before .before .before .before .before .before .before .before .before .before .before .before .before .before .before .before .before .before .before .before .before .before .before .before .before .before .before .loop .inv .good .runnable .inRange .threads in
+    let at-wide2 = c .before .before .before .before .before .before .before .before .before .before .before .before .before .before .before .before .before .before .before .before .before .before .before .before .before .before .before in
+    let takes = at-wide2 .before in
+    let inside = takes .before .before in
+    let here = inside .before in
+    let begun = here .before .before in
+    let h = take-there (here .loop .inv .good) (begun .pre .1 .0 (here .loop .k) (inside .loop-test .taken)) (takes .if1 .left) .1 (at-wide2 .wide2 .ensures) in
+    let m = here .loop .inv .good .runnable .inRange .threads in
     omega arith
 
 element-set-from-row-2 : tie.Need-element-set-from-row-2 Inv-loop μ-loop
 element-set-from-row-2 c =
-    let h = take-there (c .before .before .before .before .before .before .before .before .before .before .before .before .before .before .before .before .before .before .before .before .before .before .before .before .before .before .before .before .before .before .before .loop .inv .good) (c .before .before .before .before .before .before .before .before .before .before .before .before .before .before .before .before .before .before .before .before .before .before .before .before .before .before .before .before .before .before .before .before .before .pre .1 .0 (c .before .before .before .before .before .before .before .before .before .before .before .before .before .before .before .before .before .before .before .before .before .before .before .before .before .before .before .before .before .before .before .loop .k) (c .before .before .before .before .before .before .before .before .before .before .before .before .before .before .before .before .before .before .before .before .before .before .before .before .before .before .before .before .before .before .loop-test .taken)) (c .before .before .before .before .before .before .before .before .before .before .before .before .before .before .before .before .before .before .before .before .before .before .before .before .before .before .before .before .if1 .left) .1 (c .before .before .before .before .before .before .before .before .before .before .before .before .before .before .before .before .before .before .before .before .before .before .before .before .before .before .before .wide2 .ensures) in
-    let m = c .before .before .before .before .before .before .before .before .before .before .before .before .before .before .before .before .before .before .before .before .before .before .before .before .before .before .before .before .before .before .before .loop .inv .good .runnable .inRange .threads in
+    let at-wide2 = c .before .before .before .before .before .before .before .before .before .before .before .before .before .before .before .before .before .before .before .before .before .before .before .before .before .before .before in
+    let takes = at-wide2 .before in
+    let inside = takes .before .before in
+    let here = inside .before in
+    let begun = here .before .before in
+    let h = take-there (here .loop .inv .good) (begun .pre .1 .0 (here .loop .k) (inside .loop-test .taken)) (takes .if1 .left) .1 (at-wide2 .wide2 .ensures) in
+    let m = here .loop .inv .good .runnable .inRange .threads in
     omega arith
 
 mul-word-2 : tie.Need-mul-word-2 Inv-loop μ-loop
 mul-word-2 c =
-    let k = current-lookable (c .before .before .before .before .before .before .before .before .before .before .before .before .before .before .before .before .before .before .before .before .before .before .before .before .before .before .before .before .before .before .before .loop .inv .good .runnable .inRange) (take-there (c .before .before .before .before .before .before .before .before .before .before .before .before .before .before .before .before .before .before .before .before .before .before .before .before .before .before .before .before .before .before .before .loop .inv .good) (c .before .before .before .before .before .before .before .before .before .before .before .before .before .before .before .before .before .before .before .before .before .before .before .before .before .before .before .before .before .before .before .before .before .pre .1 .0 (c .before .before .before .before .before .before .before .before .before .before .before .before .before .before .before .before .before .before .before .before .before .before .before .before .before .before .before .before .before .before .before .loop .k) (c .before .before .before .before .before .before .before .before .before .before .before .before .before .before .before .before .before .before .before .before .before .before .before .before .before .before .before .before .before .before .loop-test .taken)) (c .before .before .before .before .before .before .before .before .before .before .before .before .before .before .before .before .before .before .before .before .before .before .before .before .before .before .before .before .if1 .left) .1 (c .before .before .before .before .before .before .before .before .before .before .before .before .before .before .before .before .before .before .before .before .before .before .before .before .before .before .before .wide2 .ensures)) (c .before .before .before .before .before .before .before .before .before .before .before .before .before .before .before .before .before .before .before .before .before .before .before .before .if3 .left) (ap (λ (p : ℕ). getD (c .before .before .before .before .before .before .before .before .before .before .before .before .before .before .before .before .before .before .before .before .before .before .before .before .before .before .before .before .before .before .before .loop .s .code) p noInstruction) (c .before .before .before .before .before .before .before .before .before .before .before .before .before .before .before .before .before .before .before .before .before .before .before .code-place .ensures)) in
+    let at-cell-of = c .before .before .before .before .before .before .before in
+    let at-code-place = at-cell-of .before .before .before .before .before .before .before .before .before .before .before .before .before .before .before .before in
+    let going = at-code-place .before in
+    let at-wide2 = going .before .before .before in
+    let takes = at-wide2 .before in
+    let inside = takes .before .before in
+    let here = inside .before in
+    let begun = here .before .before in
+    let k = current-lookable (here .loop .inv .good .runnable .inRange) (take-there (here .loop .inv .good) (begun .pre .1 .0 (here .loop .k) (inside .loop-test .taken)) (takes .if1 .left) .1 (at-wide2 .wide2 .ensures)) (going .if3 .left) (ap (λ (p : ℕ). getD (here .loop .s .code) p noInstruction) (at-code-place .code-place .ensures)) in
     let h = k .cell in
-    let e = c .before .before .before .before .before .before .before .cell-of .ensures in
+    let e = at-cell-of .cell-of .ensures in
     omega arith
 
 element-set-from-word-2 : tie.Need-element-set-from-word-2 Inv-loop μ-loop
 element-set-from-word-2 c =
-    let k = current-lookable (c .before .before .before .before .before .before .before .before .before .before .before .before .before .before .before .before .before .before .before .before .before .before .before .before .before .before .before .before .before .before .before .loop .inv .good .runnable .inRange) (take-there (c .before .before .before .before .before .before .before .before .before .before .before .before .before .before .before .before .before .before .before .before .before .before .before .before .before .before .before .before .before .before .before .loop .inv .good) (c .before .before .before .before .before .before .before .before .before .before .before .before .before .before .before .before .before .before .before .before .before .before .before .before .before .before .before .before .before .before .before .before .before .pre .1 .0 (c .before .before .before .before .before .before .before .before .before .before .before .before .before .before .before .before .before .before .before .before .before .before .before .before .before .before .before .before .before .before .before .loop .k) (c .before .before .before .before .before .before .before .before .before .before .before .before .before .before .before .before .before .before .before .before .before .before .before .before .before .before .before .before .before .before .loop-test .taken)) (c .before .before .before .before .before .before .before .before .before .before .before .before .before .before .before .before .before .before .before .before .before .before .before .before .before .before .before .before .if1 .left) .1 (c .before .before .before .before .before .before .before .before .before .before .before .before .before .before .before .before .before .before .before .before .before .before .before .before .before .before .before .wide2 .ensures)) (c .before .before .before .before .before .before .before .before .before .before .before .before .before .before .before .before .before .before .before .before .before .before .before .before .if3 .left) (ap (λ (p : ℕ). getD (c .before .before .before .before .before .before .before .before .before .before .before .before .before .before .before .before .before .before .before .before .before .before .before .before .before .before .before .before .before .before .before .loop .s .code) p noInstruction) (c .before .before .before .before .before .before .before .before .before .before .before .before .before .before .before .before .before .before .before .before .before .before .before .code-place .ensures)) in
+    let at-cell-of = c .before .before .before .before .before .before .before in
+    let at-code-place = at-cell-of .before .before .before .before .before .before .before .before .before .before .before .before .before .before .before .before in
+    let going = at-code-place .before in
+    let at-wide2 = going .before .before .before in
+    let takes = at-wide2 .before in
+    let inside = takes .before .before in
+    let here = inside .before in
+    let begun = here .before .before in
+    let k = current-lookable (here .loop .inv .good .runnable .inRange) (take-there (here .loop .inv .good) (begun .pre .1 .0 (here .loop .k) (inside .loop-test .taken)) (takes .if1 .left) .1 (at-wide2 .wide2 .ensures)) (going .if3 .left) (ap (λ (p : ℕ). getD (here .loop .s .code) p noInstruction) (at-code-place .code-place .ensures)) in
     let h = k .cell in
-    let e = c .before .before .before .before .before .before .before .cell-of .ensures in
+    let e = at-cell-of .cell-of .ensures in
     omega arith
 
 mul-content : tie.Need-mul-content Inv-loop μ-loop
 mul-content c =
-    let k = current-lookable (c .before .before .before .before .before .before .before .before .before .before .before .before .before .before .before .before .before .before .before .before .before .before .before .before .before .before .before .before .before .before .before .loop .inv .good .runnable .inRange) (take-there (c .before .before .before .before .before .before .before .before .before .before .before .before .before .before .before .before .before .before .before .before .before .before .before .before .before .before .before .before .before .before .before .loop .inv .good) (c .before .before .before .before .before .before .before .before .before .before .before .before .before .before .before .before .before .before .before .before .before .before .before .before .before .before .before .before .before .before .before .before .before .pre .1 .0 (c .before .before .before .before .before .before .before .before .before .before .before .before .before .before .before .before .before .before .before .before .before .before .before .before .before .before .before .before .before .before .before .loop .k) (c .before .before .before .before .before .before .before .before .before .before .before .before .before .before .before .before .before .before .before .before .before .before .before .before .before .before .before .before .before .before .loop-test .taken)) (c .before .before .before .before .before .before .before .before .before .before .before .before .before .before .before .before .before .before .before .before .before .before .before .before .before .before .before .before .if1 .left) .1 (c .before .before .before .before .before .before .before .before .before .before .before .before .before .before .before .before .before .before .before .before .before .before .before .before .before .before .before .wide2 .ensures)) (c .before .before .before .before .before .before .before .before .before .before .before .before .before .before .before .before .before .before .before .before .before .before .before .before .if3 .left) (ap (λ (p : ℕ). getD (c .before .before .before .before .before .before .before .before .before .before .before .before .before .before .before .before .before .before .before .before .before .before .before .before .before .before .before .before .before .before .before .loop .s .code) p noInstruction) (c .before .before .before .before .before .before .before .before .before .before .before .before .before .before .before .before .before .before .before .before .before .before .before .code-place .ensures)) in
+    let at-register-place = c .before .before .before .before .before .before in
+    let at-code-place = at-register-place .before .before .before .before .before .before .before .before .before .before .before .before .before .before .before .before .before in
+    let going = at-code-place .before in
+    let at-wide2 = going .before .before .before in
+    let takes = at-wide2 .before in
+    let inside = takes .before .before in
+    let here = inside .before in
+    let begun = here .before .before in
+    let k = current-lookable (here .loop .inv .good .runnable .inRange) (take-there (here .loop .inv .good) (begun .pre .1 .0 (here .loop .k) (inside .loop-test .taken)) (takes .if1 .left) .1 (at-wide2 .wide2 .ensures)) (going .if3 .left) (ap (λ (p : ℕ). getD (here .loop .s .code) p noInstruction) (at-code-place .code-place .ensures)) in
     let h = k .thread in
     let r = k .register in
-    let e = c .before .before .before .before .before .before .register-place .ensures in
+    let e = at-register-place .register-place .ensures in
     omega arith
 
 element-set-from-content : tie.Need-element-set-from-content Inv-loop μ-loop
 element-set-from-content c =
-    let k = current-lookable (c .before .before .before .before .before .before .before .before .before .before .before .before .before .before .before .before .before .before .before .before .before .before .before .before .before .before .before .before .before .before .before .loop .inv .good .runnable .inRange) (take-there (c .before .before .before .before .before .before .before .before .before .before .before .before .before .before .before .before .before .before .before .before .before .before .before .before .before .before .before .before .before .before .before .loop .inv .good) (c .before .before .before .before .before .before .before .before .before .before .before .before .before .before .before .before .before .before .before .before .before .before .before .before .before .before .before .before .before .before .before .before .before .pre .1 .0 (c .before .before .before .before .before .before .before .before .before .before .before .before .before .before .before .before .before .before .before .before .before .before .before .before .before .before .before .before .before .before .before .loop .k) (c .before .before .before .before .before .before .before .before .before .before .before .before .before .before .before .before .before .before .before .before .before .before .before .before .before .before .before .before .before .before .loop-test .taken)) (c .before .before .before .before .before .before .before .before .before .before .before .before .before .before .before .before .before .before .before .before .before .before .before .before .before .before .before .before .if1 .left) .1 (c .before .before .before .before .before .before .before .before .before .before .before .before .before .before .before .before .before .before .before .before .before .before .before .before .before .before .before .wide2 .ensures)) (c .before .before .before .before .before .before .before .before .before .before .before .before .before .before .before .before .before .before .before .before .before .before .before .before .if3 .left) (ap (λ (p : ℕ). getD (c .before .before .before .before .before .before .before .before .before .before .before .before .before .before .before .before .before .before .before .before .before .before .before .before .before .before .before .before .before .before .before .loop .s .code) p noInstruction) (c .before .before .before .before .before .before .before .before .before .before .before .before .before .before .before .before .before .before .before .before .before .before .before .code-place .ensures)) in
+    let at-register-place = c .before .before .before .before .before .before in
+    let at-code-place = at-register-place .before .before .before .before .before .before .before .before .before .before .before .before .before .before .before .before .before in
+    let going = at-code-place .before in
+    let at-wide2 = going .before .before .before in
+    let takes = at-wide2 .before in
+    let inside = takes .before .before in
+    let here = inside .before in
+    let begun = here .before .before in
+    let k = current-lookable (here .loop .inv .good .runnable .inRange) (take-there (here .loop .inv .good) (begun .pre .1 .0 (here .loop .k) (inside .loop-test .taken)) (takes .if1 .left) .1 (at-wide2 .wide2 .ensures)) (going .if3 .left) (ap (λ (p : ℕ). getD (here .loop .s .code) p noInstruction) (at-code-place .code-place .ensures)) in
     let h = k .thread in
     let r = k .register in
-    let e = c .before .before .before .before .before .before .register-place .ensures in
+    let e = at-register-place .register-place .ensures in
     omega arith
 
 mul-s : tie.Need-mul-s Inv-loop μ-loop
 mul-s c =
-    let h = take-there (c .before .before .before .before .before .before .before .before .before .before .before .before .before .before .before .before .before .before .before .before .before .before .before .before .before .before .before .before .before .before .before .loop .inv .good) (c .before .before .before .before .before .before .before .before .before .before .before .before .before .before .before .before .before .before .before .before .before .before .before .before .before .before .before .before .before .before .before .before .before .pre .1 .0 (c .before .before .before .before .before .before .before .before .before .before .before .before .before .before .before .before .before .before .before .before .before .before .before .before .before .before .before .before .before .before .before .loop .k) (c .before .before .before .before .before .before .before .before .before .before .before .before .before .before .before .before .before .before .before .before .before .before .before .before .before .before .before .before .before .before .loop-test .taken)) (c .before .before .before .before .before .before .before .before .before .before .before .before .before .before .before .before .before .before .before .before .before .before .before .before .before .before .before .before .if1 .left) .1 (c .before .before .before .before .before .before .before .before .before .before .before .before .before .before .before .before .before .before .before .before .before .before .before .before .before .before .before .wide2 .ensures) in
-    let m = c .before .before .before .before .before .before .before .before .before .before .before .before .before .before .before .before .before .before .before .before .before .before .before .before .before .before .before .before .before .before .before .loop .inv .good .runnable .inRange .threads in
+    let at-wide2 = c .before .before .before .before .before .before .before .before .before .before .before .before .before .before .before .before .before .before .before .before .before .before .before .before .before .before .before in
+    let takes = at-wide2 .before in
+    let inside = takes .before .before in
+    let here = inside .before in
+    let begun = here .before .before in
+    let h = take-there (here .loop .inv .good) (begun .pre .1 .0 (here .loop .k) (inside .loop-test .taken)) (takes .if1 .left) .1 (at-wide2 .wide2 .ensures) in
+    let m = here .loop .inv .good .runnable .inRange .threads in
     omega arith
 
 element-write-s : tie.Need-element-write-s Inv-loop μ-loop
 element-write-s c =
-    let h = take-there (c .before .before .before .before .before .before .before .before .before .before .before .before .before .before .before .before .before .before .before .before .before .before .before .before .before .before .before .before .before .before .before .loop .inv .good) (c .before .before .before .before .before .before .before .before .before .before .before .before .before .before .before .before .before .before .before .before .before .before .before .before .before .before .before .before .before .before .before .before .before .pre .1 .0 (c .before .before .before .before .before .before .before .before .before .before .before .before .before .before .before .before .before .before .before .before .before .before .before .before .before .before .before .before .before .before .before .loop .k) (c .before .before .before .before .before .before .before .before .before .before .before .before .before .before .before .before .before .before .before .before .before .before .before .before .before .before .before .before .before .before .loop-test .taken)) (c .before .before .before .before .before .before .before .before .before .before .before .before .before .before .before .before .before .before .before .before .before .before .before .before .before .before .before .before .if1 .left) .1 (c .before .before .before .before .before .before .before .before .before .before .before .before .before .before .before .before .before .before .before .before .before .before .before .before .before .before .before .wide2 .ensures) in
-    let m = c .before .before .before .before .before .before .before .before .before .before .before .before .before .before .before .before .before .before .before .before .before .before .before .before .before .before .before .before .before .before .before .loop .inv .good .runnable .inRange .threads in
+    let at-wide2 = c .before .before .before .before .before .before .before .before .before .before .before .before .before .before .before .before .before .before .before .before .before .before .before .before .before .before .before in
+    let takes = at-wide2 .before in
+    let inside = takes .before .before in
+    let here = inside .before in
+    let begun = here .before .before in
+    let h = take-there (here .loop .inv .good) (begun .pre .1 .0 (here .loop .k) (inside .loop-test .taken)) (takes .if1 .left) .1 (at-wide2 .wide2 .ensures) in
+    let m = here .loop .inv .good .runnable .inRange .threads in
     omega arith
 
 put-flag-requires : tie.Need-put-flag-requires Inv-loop μ-loop
 put-flag-requires c κs =
-    let h = take-there (c .before .before .before .before .before .before .before .before .before .before .before .before .before .before .before .before .before .before .before .before .before .before .before .before .before .before .before .before .before .before .before .before .loop .inv .good) (c .before .before .before .before .before .before .before .before .before .before .before .before .before .before .before .before .before .before .before .before .before .before .before .before .before .before .before .before .before .before .before .before .before .before .pre .1 .0 (c .before .before .before .before .before .before .before .before .before .before .before .before .before .before .before .before .before .before .before .before .before .before .before .before .before .before .before .before .before .before .before .before .loop .k) (c .before .before .before .before .before .before .before .before .before .before .before .before .before .before .before .before .before .before .before .before .before .before .before .before .before .before .before .before .before .before .before .loop-test .taken)) (c .before .before .before .before .before .before .before .before .before .before .before .before .before .before .before .before .before .before .before .before .before .before .before .before .before .before .before .before .before .if1 .left) .1 (c .before .before .before .before .before .before .before .before .before .before .before .before .before .before .before .before .before .before .before .before .before .before .before .before .before .before .before .before .wide2 .ensures) in
-    let m = c .before .before .before .before .before .before .before .before .before .before .before .before .before .before .before .before .before .before .before .before .before .before .before .before .before .before .before .before .before .before .before .before .loop .inv .good .runnable .inRange .threads in
+    let at-wide2 = c .before .before .before .before .before .before .before .before .before .before .before .before .before .before .before .before .before .before .before .before .before .before .before .before .before .before .before .before in
+    let takes = at-wide2 .before in
+    let inside = takes .before .before in
+    let here = inside .before in
+    let begun = here .before .before in
+    let h = take-there (here .loop .inv .good) (begun .pre .1 .0 (here .loop .k) (inside .loop-test .taken)) (takes .if1 .left) .1 (at-wide2 .wide2 .ensures) in
+    let m = here .loop .inv .good .runnable .inRange .threads in
     omega arith
 
 put-owner-requires : tie.Need-put-owner-requires Inv-loop μ-loop
 put-owner-requires c κs =
-    let k = current-lookable (c .before .before .before .before .before .before .before .before .before .before .before .before .before .before .before .before .before .before .before .before .before .before .before .before .before .before .before .before .before .before .before .before .before .before .loop .inv .good .runnable .inRange) (take-there (c .before .before .before .before .before .before .before .before .before .before .before .before .before .before .before .before .before .before .before .before .before .before .before .before .before .before .before .before .before .before .before .before .before .before .loop .inv .good) (c .before .before .before .before .before .before .before .before .before .before .before .before .before .before .before .before .before .before .before .before .before .before .before .before .before .before .before .before .before .before .before .before .before .before .before .before .pre .1 .0 (c .before .before .before .before .before .before .before .before .before .before .before .before .before .before .before .before .before .before .before .before .before .before .before .before .before .before .before .before .before .before .before .before .before .before .loop .k) (c .before .before .before .before .before .before .before .before .before .before .before .before .before .before .before .before .before .before .before .before .before .before .before .before .before .before .before .before .before .before .before .before .before .loop-test .taken)) (c .before .before .before .before .before .before .before .before .before .before .before .before .before .before .before .before .before .before .before .before .before .before .before .before .before .before .before .before .before .before .before .if1 .left) .1 (c .before .before .before .before .before .before .before .before .before .before .before .before .before .before .before .before .before .before .before .before .before .before .before .before .before .before .before .before .before .before .wide2 .ensures)) (c .before .before .before .before .before .before .before .before .before .before .before .before .before .before .before .before .before .before .before .before .before .before .before .before .before .before .before .if3 .left) (ap (λ (p : ℕ). getD (c .before .before .before .before .before .before .before .before .before .before .before .before .before .before .before .before .before .before .before .before .before .before .before .before .before .before .before .before .before .before .before .before .before .before .loop .s .code) p noInstruction) (c .before .before .before .before .before .before .before .before .before .before .before .before .before .before .before .before .before .before .before .before .before .before .before .before .before .before .code-place .ensures)) in
+    let at-cell-of = c .before .before .before .before .before .before .before .before .before .before in
+    let at-code-place = at-cell-of .before .before .before .before .before .before .before .before .before .before .before .before .before .before .before .before in
+    let going = at-code-place .before in
+    let at-wide2 = going .before .before .before in
+    let takes = at-wide2 .before in
+    let inside = takes .before .before in
+    let here = inside .before in
+    let begun = here .before .before in
+    let k = current-lookable (here .loop .inv .good .runnable .inRange) (take-there (here .loop .inv .good) (begun .pre .1 .0 (here .loop .k) (inside .loop-test .taken)) (takes .if1 .left) .1 (at-wide2 .wide2 .ensures)) (going .if3 .left) (ap (λ (p : ℕ). getD (here .loop .s .code) p noInstruction) (at-code-place .code-place .ensures)) in
     let h = k .cell in
-    let e = c .before .before .before .before .before .before .before .before .before .before .cell-of .ensures in
+    let e = at-cell-of .cell-of .ensures in
     omega arith
 
 put-sharing-requires : tie.Need-put-sharing-requires Inv-loop μ-loop
 put-sharing-requires c κs =
-    let k = current-lookable (c .before .before .before .before .before .before .before .before .before .before .before .before .before .before .before .before .before .before .before .before .before .before .before .before .before .before .before .before .before .before .before .before .before .before .before .before .loop .inv .good .runnable .inRange) (take-there (c .before .before .before .before .before .before .before .before .before .before .before .before .before .before .before .before .before .before .before .before .before .before .before .before .before .before .before .before .before .before .before .before .before .before .before .before .loop .inv .good) (c .before .before .before .before .before .before .before .before .before .before .before .before .before .before .before .before .before .before .before .before .before .before .before .before .before .before .before .before .before .before .before .before .before .before .before .before .before .before .pre .1 .0 (c .before .before .before .before .before .before .before .before .before .before .before .before .before .before .before .before .before .before .before .before .before .before .before .before .before .before .before .before .before .before .before .before .before .before .before .before .loop .k) (c .before .before .before .before .before .before .before .before .before .before .before .before .before .before .before .before .before .before .before .before .before .before .before .before .before .before .before .before .before .before .before .before .before .before .before .loop-test .taken)) (c .before .before .before .before .before .before .before .before .before .before .before .before .before .before .before .before .before .before .before .before .before .before .before .before .before .before .before .before .before .before .before .before .before .if1 .left) .1 (c .before .before .before .before .before .before .before .before .before .before .before .before .before .before .before .before .before .before .before .before .before .before .before .before .before .before .before .before .before .before .before .before .wide2 .ensures)) (c .before .before .before .before .before .before .before .before .before .before .before .before .before .before .before .before .before .before .before .before .before .before .before .before .before .before .before .before .before .if3 .left) (ap (λ (p : ℕ). getD (c .before .before .before .before .before .before .before .before .before .before .before .before .before .before .before .before .before .before .before .before .before .before .before .before .before .before .before .before .before .before .before .before .before .before .before .before .loop .s .code) p noInstruction) (c .before .before .before .before .before .before .before .before .before .before .before .before .before .before .before .before .before .before .before .before .before .before .before .before .before .before .before .before .code-place .ensures)) in
+    let at-cell-of = c .before .before .before .before .before .before .before .before .before .before .before .before in
+    let at-code-place = at-cell-of .before .before .before .before .before .before .before .before .before .before .before .before .before .before .before .before in
+    let going = at-code-place .before in
+    let at-wide2 = going .before .before .before in
+    let takes = at-wide2 .before in
+    let inside = takes .before .before in
+    let here = inside .before in
+    let begun = here .before .before in
+    let k = current-lookable (here .loop .inv .good .runnable .inRange) (take-there (here .loop .inv .good) (begun .pre .1 .0 (here .loop .k) (inside .loop-test .taken)) (takes .if1 .left) .1 (at-wide2 .wide2 .ensures)) (going .if3 .left) (ap (λ (p : ℕ). getD (here .loop .s .code) p noInstruction) (at-code-place .code-place .ensures)) in
     let h = k .cell in
-    let e = c .before .before .before .before .before .before .before .before .before .before .before .before .cell-of .ensures in
+    let e = at-cell-of .cell-of .ensures in
     omega arith
 
 mul-value : tie.Need-mul-value Inv-loop μ-loop
-mul-value c = let s = c .before .before .before .before .before .before .before .before .before .before .before .before .before .before .before .before .before .before .before .before .before .before .before .before .before .before .before .before .before .before .before .before .before .before .before .before .before .before .before in omega (arith, s .good .1 .1 .0 .1, s .pre .1 .1, (c .before .before .before .before .before .before .before .before .before .before .before .before .before .before .before .before .before .before .before .before .before .before .before .before .before .before .before .before .before .before .before .before .before .before .before .before .loop-test .taken))
+mul-value c =
+    let inside = c .before .before .before .before .before .before .before .before .before .before .before .before .before .before .before .before .before .before .before .before .before .before .before .before .before .before .before .before .before .before .before .before .before .before .before .before in
+    let begun = inside .before .before .before in
+    let s = begun in omega (arith, s .good .1 .1 .0 .1, s .pre .1 .1, (inside .loop-test .taken))
 
 slice-set-from-value : tie.Need-slice-set-from-value Inv-loop μ-loop
 slice-set-from-value c =
-    let l = c .before .before .before .before .before .before .before .before .before .before .before .before .before .before .before .before .before .before .before .before .before .before .before .before .before .before .before .before .before .before .before .before .before .before .before .before .before .loop .inv .long in
-    let s = c .before .before .before .before .before .before .before .before .before .before .before .before .before .before .before .before .before .before .before .before .before .before .before .before .before .before .before .before .before .before .before .before .before .before .before .before .before .before .before in
-    omega (arith, s .pre .1 .1, (c .before .before .before .before .before .before .before .before .before .before .before .before .before .before .before .before .before .before .before .before .before .before .before .before .before .before .before .before .before .before .before .before .before .before .before .before .loop-test .taken))
+    let inside = c .before .before .before .before .before .before .before .before .before .before .before .before .before .before .before .before .before .before .before .before .before .before .before .before .before .before .before .before .before .before .before .before .before .before .before .before in
+    let here = inside .before in
+    let begun = here .before .before in
+    let l = here .loop .inv .long in
+    let s = begun in
+    omega (arith, s .pre .1 .1, (inside .loop-test .taken))
 
 add-k-2 : tie.Need-add-k-2 Inv-loop μ-loop
-add-k-2 c = let s = c .before .before .before .before .before .before .before .before .before .before .before .before .before .before .before .before .before .before .before .before .before .before .before .before .before .before .before .before .before .before .before .before .before .before .before .before .before .before .before in omega (arith, s .good .1 .0 .0, (c .before .before .before .before .before .before .before .before .before .before .before .before .before .before .before .before .before .before .before .before .before .before .before .before .before .before .before .before .before .before .before .before .before .before .before .before .loop-test .taken))
+add-k-2 c =
+    let inside = c .before .before .before .before .before .before .before .before .before .before .before .before .before .before .before .before .before .before .before .before .before .before .before .before .before .before .before .before .before .before .before .before .before .before .before .before in
+    let begun = inside .before .before .before in
+    let s = begun in omega (arith, s .good .1 .0 .0, (inside .loop-test .taken))
 
 loop-less-2 : tie.Need-loop-less-2 Inv-loop μ-loop
-loop-less-2 c = omega (arith, (c .before .before .before .before .before .before .before .before .before .before .before .before .before .before .before .before .before .before .before .before .before .before .before .before .before .before .before .before .before .before .before .before .before .before .before .before .loop-test .taken))
+loop-less-2 c =
+    let inside = c .before .before .before .before .before .before .before .before .before .before .before .before .before .before .before .before .before .before .before .before .before .before .before .before .before .before .before .before .before .before .before .before .before .before .before .before in
+    omega (arith, (inside .loop-test .taken))
 
 loop-again-2 : tie.Need-loop-again-2 Inv-loop μ-loop
 loop-again-2 c =
-    let l = c .before .before .before .before .before .before .before .before .before .before .before .before .before .before .before .before .before .before .before .before .before .before .before .before .before .before .before .before .before .before .before .before .before .before .before .before .before .loop in
     let x = c .before .before .before .before .before .before .before .before .before .before .before .before .before .before .before .before .before .before .decided .result in
     let zw : toZ w32 (ofZ w32 (x .effect .word)) ≡ x .effect .word = search needs in
     let zc : toZ w32 (ofZ w32 (x .effect .content)) ≡ x .effect .content = search needs in
     let zv : toZ w32 (ofZ w32 (x .effect .value)) ≡ x .effect .value = search needs in
     let zp : toZ w32 (ofZ w32 (x .effect .pushed)) ≡ x .effect .pushed = search needs in
-    took-placed (l .s) _ (l .k) (l .values) _ (x .effect) (x .held) (c .before .before .before .before .before .before .before .before .before .before .before .before .before .cell-of .ensures) (c .before .before .before .before .before .before .before .before .before .before .before .before .register-place .ensures) zw zc zv zp (c .before .before .before .before .before .before .before .before .before .after .ensures) (c .before .before .before .before .put-flag .ensures) (c .before .before .put-owner .ensures) (c .put-sharing .ensures)
-    (turn checkedOf (l .inv) _ (taken-checked (c .before .before .before .before .before .before .before .before .before .before .before .before .before .before .before .before .before .before .before .before .before .before .before .before .before .before .before .before .before .before .before .before .before .before .before .before .before .loop .inv .good .runnable .inRange) (take-there (c .before .before .before .before .before .before .before .before .before .before .before .before .before .before .before .before .before .before .before .before .before .before .before .before .before .before .before .before .before .before .before .before .before .before .before .before .before .loop .inv .good) (c .before .before .before .before .before .before .before .before .before .before .before .before .before .before .before .before .before .before .before .before .before .before .before .before .before .before .before .before .before .before .before .before .before .before .before .before .before .before .before .pre .1 .0 (c .before .before .before .before .before .before .before .before .before .before .before .before .before .before .before .before .before .before .before .before .before .before .before .before .before .before .before .before .before .before .before .before .before .before .before .before .before .loop .k) (c .before .before .before .before .before .before .before .before .before .before .before .before .before .before .before .before .before .before .before .before .before .before .before .before .before .before .before .before .before .before .before .before .before .before .before .before .loop-test .taken)) (c .before .before .before .before .before .before .before .before .before .before .before .before .before .before .before .before .before .before .before .before .before .before .before .before .before .before .before .before .before .before .before .before .before .before .if1 .left) .1 (c .before .before .before .before .before .before .before .before .before .before .before .before .before .before .before .before .before .before .before .before .before .before .before .before .before .before .before .before .before .before .before .before .before .wide2 .ensures)) (c .before .before .before .before .before .before .before .before .before .before .before .before .before .before .before .before .before .before .before .before .before .before .before .before .before .before .before .before .before .before .if3 .left) (ap (λ (p : ℕ). getD (c .before .before .before .before .before .before .before .before .before .before .before .before .before .before .before .before .before .before .before .before .before .before .before .before .before .before .before .before .before .before .before .before .before .before .before .before .before .loop .s .code) p noInstruction) (c .before .before .before .before .before .before .before .before .before .before .before .before .before .before .before .before .before .before .before .before .before .before .before .before .before .before .before .before .before .code-place .ensures)) (came (c .before .before .before .before .before .before .before .before .before .before .before .before .before .before .before .before .before .before .before .before .before .before .before .before .before)) (c .before .before .before .before .before .before .before .before .before .before .before .before .before .before .before .before .before .before .decided .ensures) (c .before .before .before .before .before .before .before .before .before .before .before .before .before .before .before .before .if5 .left) refl ∙ take-item (l .s) (c .before .before .before .before .before .before .before .before .before .before .before .before .before .before .before .before .before .before .before .before .before .before .before .before .before .before .before .before .before .before .before .before .before .before .if1 .left) (c .before .before .before .before .before .before .before .before .before .before .before .before .before .before .before .before .before .before .before .before .before .before .before .before .before .before .before .before .before .before .before .before .before .wide2 .ensures)) (c .before .before .before .before .before .before .before .before .before .before .before .before .before .before .before .before .before .before .before .before .before .before .before .before .before .before .before .before .before .before .before .before .before .before .before .before .loop-test .taken) (c .before .before .before .before .before .before .before .before .before .before .before .before .before .before .before .before .before .before .before .before .before .before .before .before .before .before .before .before .before .before .before .before .before .before .before .before .before .before .before .pre .1 .1) refl (good-took (l .inv .good) (take-there (c .before .before .before .before .before .before .before .before .before .before .before .before .before .before .before .before .before .before .before .before .before .before .before .before .before .before .before .before .before .before .before .before .before .before .before .before .before .loop .inv .good) (c .before .before .before .before .before .before .before .before .before .before .before .before .before .before .before .before .before .before .before .before .before .before .before .before .before .before .before .before .before .before .before .before .before .before .before .before .before .before .before .pre .1 .0 (c .before .before .before .before .before .before .before .before .before .before .before .before .before .before .before .before .before .before .before .before .before .before .before .before .before .before .before .before .before .before .before .before .before .before .before .before .before .loop .k) (c .before .before .before .before .before .before .before .before .before .before .before .before .before .before .before .before .before .before .before .before .before .before .before .before .before .before .before .before .before .before .before .before .before .before .before .before .loop-test .taken)) (c .before .before .before .before .before .before .before .before .before .before .before .before .before .before .before .before .before .before .before .before .before .before .before .before .before .before .before .before .before .before .before .before .before .before .if1 .left) .1 (c .before .before .before .before .before .before .before .before .before .before .before .before .before .before .before .before .before .before .before .before .before .before .before .before .before .before .before .before .before .before .before .before .before .wide2 .ensures)) (c .before .before .before .before .before .before .before .before .before .before .before .before .before .before .before .before .before .before .before .before .before .before .before .before .before .before .before .before .before .before .if3 .left) (ap (λ (p : ℕ). getD (c .before .before .before .before .before .before .before .before .before .before .before .before .before .before .before .before .before .before .before .before .before .before .before .before .before .before .before .before .before .before .before .before .before .before .before .before .before .loop .s .code) p noInstruction) (c .before .before .before .before .before .before .before .before .before .before .before .before .before .before .before .before .before .before .before .before .before .before .before .before .before .before .before .before .before .code-place .ensures)) (came (c .before .before .before .before .before .before .before .before .before .before .before .before .before .before .before .before .before .before .before .before .before .before .before .before .before)) (c .before .before .before .before .before .before .before .before .before .before .before .before .before .before .before .before .before .before .decided .ensures) (c .before .before .before .before .before .before .before .before .before .before .before .before .before .before .before .before .if5 .left)))
+    let at-put-owner = c .before .before in
+    let at-put-flag = at-put-owner .before .before in
+    let at-after = at-put-flag .before .before .before .before .before in
+    let at-register-place = at-after .before .before .before in
+    let at-cell-of = at-register-place .before in
+    let unstopped = at-cell-of .before .before .before in
+    let at-decided = unstopped .before .before in
+    let met = at-decided .before .before .before .before .before .before .before in
+    let at-code-place = met .before .before .before .before in
+    let going = at-code-place .before in
+    let at-wide2 = going .before .before .before in
+    let takes = at-wide2 .before in
+    let inside = takes .before .before in
+    let here = inside .before in
+    let begun = here .before .before in
+    let l = here .loop in
+    took-placed (l .s) _ (l .k) (l .values) _ (x .effect) (x .held) (at-cell-of .cell-of .ensures) (at-register-place .register-place .ensures) zw zc zv zp (at-after .after .ensures) (at-put-flag .put-flag .ensures) (at-put-owner .put-owner .ensures) (c .put-sharing .ensures)
+    (turn checkedOf (l .inv) _ (taken-checked (here .loop .inv .good .runnable .inRange) (take-there (here .loop .inv .good) (begun .pre .1 .0 (here .loop .k) (inside .loop-test .taken)) (takes .if1 .left) .1 (at-wide2 .wide2 .ensures)) (going .if3 .left) (ap (λ (p : ℕ). getD (here .loop .s .code) p noInstruction) (at-code-place .code-place .ensures)) (came met) (at-decided .decided .ensures) (unstopped .if5 .left) refl ∙ take-item (l .s) (takes .if1 .left) (at-wide2 .wide2 .ensures)) (inside .loop-test .taken) (begun .pre .1 .1) refl (good-took (l .inv .good) (take-there (here .loop .inv .good) (begun .pre .1 .0 (here .loop .k) (inside .loop-test .taken)) (takes .if1 .left) .1 (at-wide2 .wide2 .ensures)) (going .if3 .left) (ap (λ (p : ℕ). getD (here .loop .s .code) p noInstruction) (at-code-place .code-place .ensures)) (came met) (at-decided .decided .ensures) (unstopped .if5 .left)))
 
 same-length-4 : tie.Need-same-length-4 Inv-loop μ-loop
 same-length-4 c = c .before .loop .inv .long
