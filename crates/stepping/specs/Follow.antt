@@ -1,34 +1,29 @@
 -- Stepping through a schedule, as a debugger does it: item by item on one lent state, until a number is not 0. What it has then seen.
 use Prim.Native.Nat.{ℕ, _+_, _-_}
-use mathlib.Core.Bool.{Bool, _||_}
 use mathlib.Core.List.{List, [], _∷_}
 use mathlib.Core.Path.{_≡_}
 use lib.Dec.{eqb, leb}
 use lib.IntN.{ℤ, pos}
 use lib.ListN.{getD}
-use Rattle.reader.specs.declared.state.Instruction.{Instruction}
 use Rattle.reader.specs.declared.state.State.{State}
 use Rattle.reader.specs.State.{registerOf}
 use Rattle.reader.specs.Rules.{pick}
 use Rattle.reader.specs.Case.{readOf}
-use Rattle.machine.specs.Action.{currentOf}
+use Rattle.machine.specs.Action.{currentOf, nextOf}
 use Rattle.machine.specs.Run.{runOf, valuesOf}
 use Rattle.discipline.specs.declared.check.Answer.{Answer}
 use Rattle.discipline.specs.Check.{answer, threadOf, scheduleOf}
+use Rattle.discipline.specs.OneMemory.{reads}
 use Rattle.discipline.specs.Step.{checkedOf}
 use Rattle.stepping.specs.declared.step.After.{After}
 use Rattle.stepping.specs.Step.{steppedOf}
-
--- LOAD and COMPARE-SWAP
-abbrev pub reads : Instruction → Bool
-reads i = eqb (i .operation) 1 || eqb (i .operation) 5
 
 -- "what a LOAD or COMPARE-SWAP read, 0 for other items": an answer does not hold it, but the instruction's register does once the item is taken. So it is
 -- seen in the states before and after.
 unfoldable pub shownOf : State → ℕ → State → ℤ
 shownOf before x after =
     let t = x - 1 in
-    pick (leb 17 x) (pos 0) (pick (reads (currentOf before t)) (registerOf after t (currentOf before t .register)) (pos 0))
+    pick (leb 17 x) (pos 0) (pick (reads (nextOf before t)) (registerOf after t (currentOf before t .register)) (pos 0))
 
 -- the state and the answer at the end, and a value for each item taken; the places of the single answers are added up
 pub record Followed : Type 0 where
