@@ -5,11 +5,11 @@ use mathlib.Core.List.{List}
 use native.Mathlib.Omega.{arith}
 use lib.ListN.{replicate}
 use lib.Dec.{eqb}
-use lib.IntN.{ℤ, pos}
+use lib.IntN.{ℤ}
 use borrow.Author.Tests.{lt-leb, le-ltb}
 use Rattle.reader.specs.declared.state.Instruction.{Instruction}
 use Rattle.reader.specs.declared.state.State.{State}
-use Rattle.reader.specs.State.{noQueue, positionOf, countOf, registerOf, memoryOf}
+use Rattle.reader.specs.State.{noQueue, positionOf, countOf, memoryOf}
 use Rattle.reader.specs.Rules.{pick}
 use Rattle.reader.specs.Range.{Shaped}
 use Rattle.machine.specs.Integer.{eqZ}
@@ -24,13 +24,13 @@ use Rattle.machine.proofs.InRange.{at-end-or, plain-step-in, unless-all}
 use Rattle.machine.proofs.PlainTake.{goes-on, plain-end}
 use Rattle.machine.proofs.Shape.{shaped-took}
 use Rattle.discipline.specs.Run.{Runnable}
-use Rattle.discipline.proofs.Maps.{upd, upd-same, upd-other, upd-id, at-or}
+use Rattle.discipline.proofs.Maps.{upd, upd-same, upd-other, at-or}
 use Rattle.discipline.proofs.Abstract.{Act, Plain, act}
 use Rattle.discipline.proofs.Waiting.{one}
 use Rattle.discipline.proofs.Coupling.{block, block-zero, block-suc}
 use Rattle.discipline.proofs.View.{Log, Local, noted, overrun, went, acted, program, registersOf, localOf, memoryMap, plainView}
 use Rattle.discipline.proofs.Viewed.{memory-took, local-took, local-other}
-use Rattle.discipline.proofs.Taking.{About, about, register-there, program-next}
+use Rattle.discipline.proofs.Taking.{About, about, same-memory, moved-on, program-next}
 use Rattle.discipline.proofs.Keeps.{Keeps, keeps-same, keeps-on}
 use Rattle.discipline.proofs.Logged.{logsAfter, logsOf, lastOf}
 
@@ -61,21 +61,15 @@ module _ {s : State} (g : Runnable s) {t : ℕ} (h : t < s .threads) (logs : ℕ
   after a = (record { row = t; at = eff a .next; registers = upd (registersOf s t) r (eff a .content); log = noted (logs t) (positionOf s t) a (eff a .value) }, upd (memoryMap s) c (eff a .word))
 
   module _ (l : positionOf s t < countOf s t) where
-    same-memory : memoryMap s ≡ upd (memoryMap s) c (memoryOf s c)
-    same-memory = sym (upd-id (memoryMap s) c refl)
-
-    moved-on : (a : Action) (n : ℕ) → went lo a n r (registersOf s t r) (pos 0) ≡ went lo a n r (registerOf s t r) (pos 0)
-    moved-on a n = ap (λ (x : ℤ). went lo a n r x (pos 0)) (register-there g h l)
-
     acts : (a : Action) → About a c (i .cell) → endedOf a ≡ 0 → _≡_ {A = Local × (ℕ → ℤ)} (act (acted lo r a) lo (memoryMap s)) (after a)
     unfolding atOnce effectOf seenOf newestOf endedOf
-    acts (read n) e z = pair-same (ap (λ (k : ℕ). went lo (read n) (positionOf s t + 1) r (memoryOf s k) (memoryOf s k)) e) same-memory
-    acts (store n x) e z = pair-same (moved-on (store n x) (positionOf s t + 1)) (ap (λ (k : ℕ). upd (memoryMap s) k x) (e .0))
-    acts fence e z = pair-same (moved-on fence (positionOf s t + 1)) same-memory
+    acts (read n) e z = pair-same (ap (λ (k : ℕ). went lo (read n) (positionOf s t + 1) r (memoryOf s k) (memoryOf s k)) e) (sym (same-memory g h l logs))
+    acts (store n x) e z = pair-same (moved-on g h l logs (store n x) (positionOf s t + 1)) (ap (λ (k : ℕ). upd (memoryMap s) k x) (e .0))
+    acts fence e z = pair-same (moved-on g h l logs fence (positionOf s t + 1)) (sym (same-memory g h l logs))
     acts (swap n old x) e z = pair-same (ap (λ (k : ℕ). went lo (swap n old x) (positionOf s t + 1) r (memoryOf s k) (memoryOf s k)) e) (ap (λ (k : ℕ). upd (memoryMap s) k (pick (eqZ (memoryOf s k) old) x (memoryOf s k))) e)
-    acts (acquire n mark) e z = pair-same (moved-on (acquire n mark) (positionOf s t + 1)) same-memory
-    acts (release n) e z = pair-same (moved-on (release n) (positionOf s t + 1)) same-memory
-    acts (silent n x) e z = pair-same refl same-memory
+    acts (acquire n mark) e z = pair-same (moved-on g h l logs (acquire n mark) (positionOf s t + 1)) (sym (same-memory g h l logs))
+    acts (release n) e z = pair-same (moved-on g h l logs (release n) (positionOf s t + 1)) (sym (same-memory g h l logs))
+    acts (silent n x) e z = pair-same refl (sym (same-memory g h l logs))
     acts end e z = absurd (omega arith)
 
     plain-took : (log : Log) → plainView (tookOf s t i (plainEffect s t)) (upd logs t log) ≡ record {

@@ -85,7 +85,7 @@ module _ {s : State} (g : Runnable s) {t : ℕ} (h : t < s .threads) (l : positi
   abbrev r : ℕ
   r = i .register
 
-  pub register-there : registersOf s t r ≡ registerOf s t r
+  register-there : registersOf s t r ≡ registerOf s t r
   register-there = let k = current-in (g .inRange) h l in rw (lt-ltb r REGISTERS (k .register))
 
   pub program-next : (x : Log) → program (s .code) (s .counts) (localOf s t x) ≡ acted (localOf s t x) r (nextOf s t)
@@ -105,7 +105,8 @@ module _ {s : State} (g : Runnable s) {t : ℕ} (h : t < s .threads) (l : positi
     queue-there : W .threads t .queue ≡ pending q
     queue-there = rw (lt-ltb t (s .threads) h)
 
-    same-memory : upd (memoryMap s) c (memoryOf s c) ≡ memoryMap s
+    -- what an action leaves as it was
+    pub same-memory : upd (memoryMap s) c (memoryOf s c) ≡ memoryMap s
     same-memory = upd-id (memoryMap s) c refl
 
     same-table : enter (tableMap s) c (ownerOf s c) (eqb (sharingOf s c) LOCAL) ≡ tableMap s
@@ -131,7 +132,7 @@ module _ {s : State} (g : Runnable s) {t : ℕ} (h : t < s .threads) (l : positi
         (enter (tableMap s) c (mk a .owner) (eqb (mk a .sharing) LOCAL)) (upd (memoryMap s) c (eff a .word))
 
     -- a thread that only moves on, by an action a
-    moved-on : (a : Action) (n : ℕ) → went lo a n r (registersOf s t r) (pos 0) ≡ went lo a n r (registerOf s t r) (pos 0)
+    pub moved-on : (a : Action) (n : ℕ) → went lo a n r (registersOf s t r) (pos 0) ≡ went lo a n r (registerOf s t r) (pos 0)
     moved-on a n = ap (λ (x : ℤ). went lo a n r x (pos 0)) register-there
 
     readable : (n : ℕ) → n ≡ c → Loadable t (nextHeld s t) → Readable W t n
