@@ -1,17 +1,17 @@
 -- The turns of the run: what the code does at one item is the checked step of it, and the states stay runnable.
-use Prim.Native.Nat.{ℕ, _-_, _<_, _≤_}
-use mathlib.Core.Bool.{Bool, true}
-use mathlib.Core.Path.{_≡_, sym, ap, _∙_}
-use mathlib.Core.List.{List}
+use Prim.Native.Nat.{ℕ, zero, suc, _-_, _<_, _≤_}
+use mathlib.Core.Bool.{Bool, true, false}
+use mathlib.Core.Path.{_≡_, refl, sym, ap, _∙_}
+use mathlib.Core.List.{List, [], _∷_}
 use native.Mathlib.Omega.{arith}
-use lib.ListN.{set}
+use lib.ListN.{set, getD}
 use lib.IntN.{ℤ, pos}
 use borrow.Author.Tests.{le-leb, lt-leb, eq-eqb, ne-eqb}
 use Rattle.reader.specs.declared.state.Queue.{Queue}
 use Rattle.reader.specs.declared.state.Instruction.{Instruction}
 use Rattle.reader.specs.declared.state.State.{State}
-use Rattle.reader.specs.State.{queueOf, positionOf, countOf, registerPlace}
-use Rattle.reader.specs.Queue.{poppedOf}
+use Rattle.reader.specs.State.{outsideQueue, queueOf, positionOf, countOf, registerPlace}
+use Rattle.reader.specs.Queue.{poppedOf, pushedOf}
 use Rattle.reader.specs.Drain.{oldestOf, drainedOf}
 use Rattle.reader.specs.Rules.{itemFits}
 use Rattle.machine.specs.declared.effect.Effect.{Effect}
@@ -78,11 +78,25 @@ module _ {P : State → Type 0} {m₀ : State} {xs : List ℕ} {vs₀ : List ℤ
   unfolding drainedOf
   drained-placed ew er f = rw (ew, er) f
 
-  pub took-placed : (i : Instruction) (e : Effect) (h : Held) {c r : ℕ} {word content pushed value : ℤ} {row : Queue} {dirty owners sharing : List ℕ} →
-      c ≡ cellOf i → r ≡ registerPlace t (i .register) → word ≡ e .word → content ≡ e .content → value ≡ e .value → pushed ≡ e .pushed →
-      row ≡ afterOf (queueOf s t) (e .pushes) (record { value = pushed; cell = i .cell }) →
+  pub took-placed : (i : Instruction) (e : Effect) (h : Held) {c r : ℕ} {word content value : ℤ} {queues : List Queue} {dirty owners sharing : List ℕ} →
+      c ≡ cellOf i → r ≡ registerPlace t (i .register) → word ≡ e .word → content ≡ e .content → value ≡ e .value →
+      queues ≡ set (s .queues) t (afterOf (queueOf s t) (e .pushes) (record { value = e .pushed; cell = i .cell })) →
       dirty ≡ flagsWith (s .dirty) t (h .dirty) → owners ≡ ownersWith (s .owners) c (h .owner) → sharing ≡ sharingWith (s .sharing) c (h .sharing) →
       Going checkedOf P m₀ xs vs₀ (holdingOf (tookOf s t i e) t i h) n (set vs k (e .value)) →
-      Going checkedOf P m₀ xs vs₀ (record { threads = s .threads; cells = s .cells; depth = s .depth; positions = set (s .positions) t (e .next); counts = s .counts; queues = set (s .queues) t row; code = s .code; registers = set (s .registers) r content; memory = set (s .memory) c word; dirty = dirty; owners = owners; sharing = sharing }) n (set vs k value)
+      Going checkedOf P m₀ xs vs₀ (record { threads = s .threads; cells = s .cells; depth = s .depth; positions = set (s .positions) t (e .next); counts = s .counts; queues = queues; code = s .code; registers = set (s .registers) r content; memory = set (s .memory) c word; dirty = dirty; owners = owners; sharing = sharing }) n (set vs k value)
   unfolding holdingOf tookOf
-  took-placed i e h ec er ew et ev ep eq ed eo es f = rw (ed, eo, es, ec, er, ew, et, ev, eq, ep) f
+  took-placed i e h ec er ew et ev eq ed eo es f = rw (eq, ed, eo, es, ec, er, ew, et, ev) f
+
+-- the rows where nothing is pushed, and where something is
+set-same : {A : Type 0} (xs : List A) (i : ℕ) (d : A) → set xs i (getD xs i d) ≡ xs
+set-same [] i d = refl
+set-same (x ∷ xs) zero d = refl
+set-same {A = A} (x ∷ xs) (suc i) d = ap (λ (l : List A). x ∷ l) (set-same xs i d)
+
+module _ (s : State) (t : ℕ) (i : Instruction) (e : Effect) where
+  pub row-kept : e .pushes ≡ false → s .queues ≡ set (s .queues) t (afterOf (queueOf s t) (e .pushes) (record { value = e .pushed; cell = i .cell }))
+  row-kept b = rw b (sym (set-same (s .queues) t outsideQueue))
+
+  pub row-pushed : {row : Queue} {value : ℤ} → e .pushes ≡ true → value ≡ e .pushed → row ≡ pushedOf (queueOf s t) (record { value = value; cell = i .cell }) →
+      set (s .queues) t row ≡ set (s .queues) t (afterOf (queueOf s t) (e .pushes) (record { value = e .pushed; cell = i .cell }))
+  row-pushed b ev er = rw (b, er, ev) refl

@@ -7,7 +7,6 @@ ghost use Rattle.discipline.specs.Run.{Items, Runnable};
 use crate::decide;
 use crate::elsewhere;
 use crate::table;
-use machine::buffer;
 use machine::effect;
 use machine::outcome::Ran;
 use reader::bytes;
@@ -85,15 +84,9 @@ pub fn ran(m: State, items: &[u8], values: &mut [i32]) -> Ran
         let h = d.held;
         let c = effect::cell_of(i);
         let r = effect::register_place(t, i);
-        let pending = Pending {
-            value: e.pushed,
-            cell: i.cell as u32,
-        };
-        let row = buffer::after(q, e.pushes, pending);
         let word = e.word;
         let content = e.content;
         let value = e.value;
-        s.queues[t] = row;
         s.memory[c] = word;
         s.registers[r] = content;
         s.positions[t] = e.next;
@@ -102,6 +95,14 @@ pub fn ran(m: State, items: &[u8], values: &mut [i32]) -> Ran
         table::put_sharing(&mut s.sharing, c, h);
         values[k] = value;
         k += 1;
+        if !e.pushes {
+            continue;
+        }
+        let row = q.pushed(Pending {
+            value: e.pushed,
+            cell: i.cell as u32,
+        });
+        s.queues[t] = row;
     }
     Ran {
         state: s,

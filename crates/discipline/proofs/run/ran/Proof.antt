@@ -1,18 +1,20 @@
 -- Each turn is one checked step; the loop changes the state in place.
-use Prim.Native.Nat.{ℕ, _-_}
+use Prim.Native.Nat.{ℕ, _-_, _<_}
 use mathlib.Core.Path.{_≡_, refl, sym, ap, _∙_}
 use lib.ListN.{length, getD}
 use mir.Val.{toZ, ofZ}
 use mir.Syntax.{w32}
 use Rattle.reader.specs.State.{noInstruction}
 use Rattle.reader.specs.Drain.{oldestOf}
+use Rattle.machine.specs.Action.{currentOf}
 use Rattle.discipline.specs.Step.{checkedOf}
 use Rattle.machine.proofs.Runs.{Going, start, turn, stopped, ended}
 use Rattle.machine.proofs.Take.{row-below, row-drainable, position-below, current-lookable}
 use mathlib.Core.Logic.{⊎-elim}
 use Rattle.discipline.proofs.Decided.{Searched, searched, not-searched, rows-in, decidable-in, end-checked, refused-checked, taken-checked}
-use Rattle.discipline.proofs.Turns.{Good, empty-drain, taken-drain, take-item, drain-there, take-there, good-drained, good-took, good-room, drained-placed, took-placed}
+use Rattle.discipline.proofs.Turns.{Good, empty-drain, taken-drain, take-item, drain-there, take-there, good-drained, good-took, good-room, drained-placed, took-placed, row-kept, row-pushed}
 use borrow.Author.Needs.{needs}
+use borrow.Author.Tests.{not-true, not-false}
 use native.Mathlib.Omega.{arith}
 use Rattle.discipline.proofs.run.ran.Statement.{statement}
 use Rattle.discipline.proofs.run.ran.Tie as tie
@@ -23,9 +25,43 @@ Inv-loop items values₀ s₀ k₀ values s k = Going checkedOf (Good s₀) s₀
 abbrev μ-loop : tie.MeasureT-loop
 μ-loop items values₀ s₀ k₀ values s k = length items - k
 
+-- the row of a drain, and of an instruction
+drain-row : (c : tie.After-wide Inv-loop μ-loop) → c .wide .result < c .before .before .before .before .loop .s .threads
+drain-row c =
+    let drains = c .before in
+    let inside = drains .before .before in
+    let here = inside .before in
+    let begun = here .before .before in
+    drain-there (here .loop .inv .good) (begun .pre .1 .0 (here .loop .k) (inside .loop-test .taken)) (drains .if1 .taken) (c .wide .ensures)
+
+row : (c : tie.After-wide2 Inv-loop μ-loop) → c .wide2 .result < c .before .before .before .before .loop .s .threads
+row c =
+    let takes = c .before in
+    let inside = takes .before .before in
+    let here = inside .before in
+    let begun = here .before .before in
+    take-there (here .loop .inv .good) (begun .pre .1 .0 (here .loop .k) (inside .loop-test .taken)) (takes .if1 .left) .1 (c .wide2 .ensures)
+
+-- the instruction that is found is the row's current one
+current : (c : tie.After-code-place Inv-loop μ-loop) → getD (c .before .before .before .before .before .before .before .before .loop .s .code) (c .code-place .result) noInstruction ≡ currentOf (c .before .before .before .before .before .before .before .before .loop .s) (c .before .before .before .before .wide2 .result)
+current c = ap (λ (p : ℕ). getD (c .before .before .before .before .before .before .before .before .loop .s .code) p noInstruction) (c .code-place .ensures)
+
 -- what is known where the ways past the search meet
 came : (c : tie.Joined4 Inv-loop μ-loop) → Searched (c .before .before .before .before .before .before .before .before .before .before .before .before .loop .s) (c .before .before .before .before .before .before .before .before .wide2 .result) (getD (c .before .before .before .before .before .before .before .before .before .before .before .before .loop .s .code) (c .before .before .before .before .code-place .result) noInstruction) (c .if4 .elsewhere)
 came c = ⊎-elim (λ w. searched (sym (c .before .is-acquire .ensures) ∙ w .0 .taken) (w .4 ∙ w .3 .ensures)) (λ w. not-searched (sym (c .before .is-acquire .ensures) ∙ w .0 .left) (w .1)) (c .if4 .came)
+
+-- what was decided fits
+word-fits : (c : tie.After-decided Inv-loop μ-loop) → toZ w32 (ofZ w32 (c .decided .result .effect .word)) ≡ c .decided .result .effect .word
+word-fits c = search needs
+
+content-fits : (c : tie.After-decided Inv-loop μ-loop) → toZ w32 (ofZ w32 (c .decided .result .effect .content)) ≡ c .decided .result .effect .content
+content-fits c = search needs
+
+value-fits : (c : tie.After-decided Inv-loop μ-loop) → toZ w32 (ofZ w32 (c .decided .result .effect .value)) ≡ c .decided .result .effect .value
+value-fits c = search needs
+
+pushed-fits : (c : tie.After-decided Inv-loop μ-loop) → toZ w32 (ofZ w32 (c .decided .result .effect .pushed)) ≡ c .decided .result .effect .pushed
+pushed-fits c = search needs
 
 loop-holds : tie.Need-loop-holds Inv-loop μ-loop
 loop-holds c = start checkedOf _ _ _ (record { runnable = c .before .pre .0; threads = refl })
@@ -79,22 +115,16 @@ popped-requires : tie.Need-popped-requires Inv-loop μ-loop
 popped-requires c κs =
     let some = c .before .before .before in
     let at-wide = some .before .before in
-    let drains = at-wide .before in
-    let inside = drains .before .before in
-    let here = inside .before in
-    let begun = here .before .before in
-    let k = row-drainable (here .loop .inv .good .runnable .inRange) (drain-there (here .loop .inv .good) (begun .pre .1 .0 (here .loop .k) (inside .loop-test .taken)) (drains .if1 .taken) (at-wide .wide .ensures)) (some .if2 .left) in
+    let here = at-wide .before .before .before .before in
+    let k = row-drainable (here .loop .inv .good .runnable .inRange) (drain-row at-wide) (some .if2 .left) in
     (k .some, k .few)
 
 mul-word : tie.Need-mul-word Inv-loop μ-loop
 mul-word c =
     let some = c .before .before .before .before in
     let at-wide = some .before .before in
-    let drains = at-wide .before in
-    let inside = drains .before .before in
-    let here = inside .before in
-    let begun = here .before .before in
-    let k = row-drainable (here .loop .inv .good .runnable .inRange) (drain-there (here .loop .inv .good) (begun .pre .1 .0 (here .loop .k) (inside .loop-test .taken)) (drains .if1 .taken) (at-wide .wide .ensures)) (some .if2 .left) in
+    let here = at-wide .before .before .before .before in
+    let k = row-drainable (here .loop .inv .good .runnable .inRange) (drain-row at-wide) (some .if2 .left) in
     let h = k .cell in
     omega arith
 
@@ -102,33 +132,24 @@ element-set-from-word : tie.Need-element-set-from-word Inv-loop μ-loop
 element-set-from-word c =
     let some = c .before .before .before .before in
     let at-wide = some .before .before in
-    let drains = at-wide .before in
-    let inside = drains .before .before in
-    let here = inside .before in
-    let begun = here .before .before in
-    let k = row-drainable (here .loop .inv .good .runnable .inRange) (drain-there (here .loop .inv .good) (begun .pre .1 .0 (here .loop .k) (inside .loop-test .taken)) (drains .if1 .taken) (at-wide .wide .ensures)) (some .if2 .left) in
+    let here = at-wide .before .before .before .before in
+    let k = row-drainable (here .loop .inv .good .runnable .inRange) (drain-row at-wide) (some .if2 .left) in
     let h = k .cell in
     omega arith
 
 mul-row : tie.Need-mul-row Inv-loop μ-loop
 mul-row c =
     let at-wide = c .before .before .before .before .before .before in
-    let drains = at-wide .before in
-    let inside = drains .before .before in
-    let here = inside .before in
-    let begun = here .before .before in
-    let h = drain-there (here .loop .inv .good) (begun .pre .1 .0 (here .loop .k) (inside .loop-test .taken)) (drains .if1 .taken) (at-wide .wide .ensures) in
+    let here = at-wide .before .before .before .before in
+    let h = drain-row at-wide in
     let m = here .loop .inv .good .runnable .inRange .threads in
     omega arith
 
 element-set-from-row : tie.Need-element-set-from-row Inv-loop μ-loop
 element-set-from-row c =
     let at-wide = c .before .before .before .before .before .before in
-    let drains = at-wide .before in
-    let inside = drains .before .before in
-    let here = inside .before in
-    let begun = here .before .before in
-    let h = drain-there (here .loop .inv .good) (begun .pre .1 .0 (here .loop .k) (inside .loop-test .taken)) (drains .if1 .taken) (at-wide .wide .ensures) in
+    let here = at-wide .before .before .before .before in
+    let h = drain-row at-wide in
     let m = here .loop .inv .good .runnable .inRange .threads in
     omega arith
 
@@ -165,7 +186,7 @@ loop-again c =
     let q = at-wide .wide .result in
     let zw : toZ w32 (ofZ w32 (oldestOf (l .s) q .value)) ≡ oldestOf (l .s) q .value = search needs in
     drained-placed (l .s) q (l .k) (l .values) zw (c .popped .ensures)
-    (turn checkedOf (l .inv) _ (taken-drain (l .s) (drains .if1 .taken) (at-wide .wide .ensures) (some .if2 .left)) (inside .loop-test .taken) (begun .pre .1 .1) refl (good-drained (l .inv .good) (drain-there (here .loop .inv .good) (begun .pre .1 .0 (here .loop .k) (inside .loop-test .taken)) (drains .if1 .taken) (at-wide .wide .ensures)) (some .if2 .left)))
+    (turn checkedOf (l .inv) _ (taken-drain (l .s) (drains .if1 .taken) (at-wide .wide .ensures) (some .if2 .left)) (inside .loop-test .taken) (begun .pre .1 .1) refl (good-drained (l .inv .good) (drain-row at-wide) (some .if2 .left)))
 
 sub-wide : tie.Need-sub-wide Inv-loop μ-loop
 sub-wide c =
@@ -200,22 +221,16 @@ element-copy-out-at c =
 mul-end : tie.Need-mul-end Inv-loop μ-loop
 mul-end c =
     let at-wide2 = c .before in
-    let takes = at-wide2 .before in
-    let inside = takes .before .before in
-    let here = inside .before in
-    let begun = here .before .before in
-    let h = take-there (here .loop .inv .good) (begun .pre .1 .0 (here .loop .k) (inside .loop-test .taken)) (takes .if1 .left) .1 (at-wide2 .wide2 .ensures) in
+    let here = at-wide2 .before .before .before .before in
+    let h = row at-wide2 in
     let m = here .loop .inv .good .runnable .inRange .threads in
     omega arith
 
 element-copy-out-end : tie.Need-element-copy-out-end Inv-loop μ-loop
 element-copy-out-end c =
     let at-wide2 = c .before in
-    let takes = at-wide2 .before in
-    let inside = takes .before .before in
-    let here = inside .before in
-    let begun = here .before .before in
-    let h = take-there (here .loop .inv .good) (begun .pre .1 .0 (here .loop .k) (inside .loop-test .taken)) (takes .if1 .left) .1 (at-wide2 .wide2 .ensures) in
+    let here = at-wide2 .before .before .before .before in
+    let h = row at-wide2 in
     let m = here .loop .inv .good .runnable .inRange .threads in
     omega arith
 
@@ -235,23 +250,17 @@ returns-2 c =
 code-place-requires : tie.Need-code-place-requires Inv-loop μ-loop
 code-place-requires c κs =
     let at-wide2 = c .before .before .before in
-    let takes = at-wide2 .before in
-    let inside = takes .before .before in
-    let here = inside .before in
-    let begun = here .before .before in
+    let here = at-wide2 .before .before .before .before in
     let g = here .loop .inv .good .runnable .inRange in
-    let h = take-there (here .loop .inv .good) (begun .pre .1 .0 (here .loop .k) (inside .loop-test .taken)) (takes .if1 .left) .1 (at-wide2 .wide2 .ensures) in
+    let h = row at-wide2 in
     (row-below g h, position-below g h (c .if3 .left))
 
 mul-i : tie.Need-mul-i Inv-loop μ-loop
 mul-i c =
     let going = c .before in
     let at-wide2 = going .before .before .before in
-    let takes = at-wide2 .before in
-    let inside = takes .before .before in
-    let here = inside .before in
-    let begun = here .before .before in
-    let h = take-there (here .loop .inv .good) (begun .pre .1 .0 (here .loop .k) (inside .loop-test .taken)) (takes .if1 .left) .1 (at-wide2 .wide2 .ensures) in
+    let here = at-wide2 .before .before .before .before in
+    let h = row at-wide2 in
     let m = here .loop .inv .good .runnable .inRange .threads in
     let p = position-below (here .loop .inv .good .runnable .inRange) h (going .if3 .left) in
     let e = c .code-place .ensures in
@@ -261,11 +270,8 @@ element-copy-out-i : tie.Need-element-copy-out-i Inv-loop μ-loop
 element-copy-out-i c =
     let going = c .before in
     let at-wide2 = going .before .before .before in
-    let takes = at-wide2 .before in
-    let inside = takes .before .before in
-    let here = inside .before in
-    let begun = here .before .before in
-    let h = take-there (here .loop .inv .good) (begun .pre .1 .0 (here .loop .k) (inside .loop-test .taken)) (takes .if1 .left) .1 (at-wide2 .wide2 .ensures) in
+    let here = at-wide2 .before .before .before .before in
+    let h = row at-wide2 in
     let m = here .loop .inv .good .runnable .inRange .threads in
     let p = position-below (here .loop .inv .good .runnable .inRange) h (going .if3 .left) in
     let e = c .code-place .ensures in
@@ -274,22 +280,16 @@ element-copy-out-i c =
 mul-q-2 : tie.Need-mul-q-2 Inv-loop μ-loop
 mul-q-2 c =
     let at-wide2 = c .before .before .before .before .before in
-    let takes = at-wide2 .before in
-    let inside = takes .before .before in
-    let here = inside .before in
-    let begun = here .before .before in
-    let h = take-there (here .loop .inv .good) (begun .pre .1 .0 (here .loop .k) (inside .loop-test .taken)) (takes .if1 .left) .1 (at-wide2 .wide2 .ensures) in
+    let here = at-wide2 .before .before .before .before in
+    let h = row at-wide2 in
     let m = here .loop .inv .good .runnable .inRange .threads in
     omega arith
 
 element-copy-out-q-2 : tie.Need-element-copy-out-q-2 Inv-loop μ-loop
 element-copy-out-q-2 c =
     let at-wide2 = c .before .before .before .before .before in
-    let takes = at-wide2 .before in
-    let inside = takes .before .before in
-    let here = inside .before in
-    let begun = here .before .before in
-    let h = take-there (here .loop .inv .good) (begun .pre .1 .0 (here .loop .k) (inside .loop-test .taken)) (takes .if1 .left) .1 (at-wide2 .wide2 .ensures) in
+    let here = at-wide2 .before .before .before .before in
+    let h = row at-wide2 in
     let m = here .loop .inv .good .runnable .inRange .threads in
     omega arith
 
@@ -309,11 +309,8 @@ decided-requires c κs =
     let at-code-place = c .before .before .before .before .before .before .before .before .before .before in
     let going = at-code-place .before in
     let at-wide2 = going .before .before .before in
-    let takes = at-wide2 .before in
-    let inside = takes .before .before in
-    let here = inside .before in
-    let begun = here .before .before in
-    decidable-in (here .loop .inv .good .runnable .inRange) (take-there (here .loop .inv .good) (begun .pre .1 .0 (here .loop .k) (inside .loop-test .taken)) (takes .if1 .left) .1 (at-wide2 .wide2 .ensures)) (going .if3 .left) (ap (λ (p : ℕ). getD (here .loop .s .code) p noInstruction) (at-code-place .code-place .ensures))
+    let here = at-wide2 .before .before .before .before in
+    decidable-in (here .loop .inv .good .runnable .inRange) (row at-wide2) (going .if3 .left) (current at-code-place)
 
 same-length-3 : tie.Need-same-length-3 Inv-loop μ-loop
 same-length-3 c =
@@ -330,8 +327,7 @@ returns-3 c =
     let takes = at-wide2 .before in
     let inside = takes .before .before in
     let here = inside .before in
-    let begun = here .before .before in
-    stopped checkedOf (here .loop .inv) _ (refused-checked (here .loop .inv .good .runnable .inRange) (take-there (here .loop .inv .good) (begun .pre .1 .0 (here .loop .k) (inside .loop-test .taken)) (takes .if1 .left) .1 (at-wide2 .wide2 .ensures)) (going .if3 .left) (ap (λ (p : ℕ). getD (here .loop .s .code) p noInstruction) (at-code-place .code-place .ensures)) (came met) (at-decided .decided .ensures) (c .if5 .taken) ∙ take-item _ (takes .if1 .left) (at-wide2 .wide2 .ensures)) (inside .loop-test .taken) (c .if5 .taken)
+    stopped checkedOf (here .loop .inv) _ (refused-checked (here .loop .inv .good .runnable .inRange) (row at-wide2) (going .if3 .left) (current at-code-place) (came met) (at-decided .decided .ensures) (c .if5 .taken) ∙ take-item _ (takes .if1 .left) (at-wide2 .wide2 .ensures)) (inside .loop-test .taken) (c .if5 .taken)
 
 cell-of-requires : tie.Need-cell-of-requires Inv-loop μ-loop
 cell-of-requires c κs = omega arith
@@ -339,95 +335,43 @@ cell-of-requires c κs = omega arith
 register-place-requires : tie.Need-register-place-requires Inv-loop μ-loop
 register-place-requires c κs =
     let at-wide2 = c .before .before .before .before .before .before .before .before .before .before .before .before .before .before .before .before .before .before .before .before in
-    let takes = at-wide2 .before in
-    let inside = takes .before .before in
-    let here = inside .before in
-    let begun = here .before .before in
-    let h = take-there (here .loop .inv .good) (begun .pre .1 .0 (here .loop .k) (inside .loop-test .taken)) (takes .if1 .left) .1 (at-wide2 .wide2 .ensures) in
-    let m = here .loop .inv .good .runnable .inRange .threads in
-    omega arith
-
-cast-t71 : tie.Need-cast-t71 Inv-loop μ-loop
-cast-t71 c = omega arith
-
-after-requires : tie.Need-after-requires Inv-loop μ-loop
-after-requires c κs =
-    let unstopped = c .before .before .before .before .before .before in
-    let at-decided = unstopped .before .before in
-    let met = at-decided .before .before .before .before .before .before .before in
-    let at-code-place = met .before .before .before .before in
-    let going = at-code-place .before in
-    let at-wide2 = going .before .before .before in
-    let takes = at-wide2 .before in
-    let inside = takes .before .before in
-    let here = inside .before in
-    let begun = here .before .before in
-    let m = here .loop .inv .good .runnable .inRange .depth in
-    λ b. let r = good-room (here .loop .inv .good) (take-there (here .loop .inv .good) (begun .pre .1 .0 (here .loop .k) (inside .loop-test .taken)) (takes .if1 .left) .1 (at-wide2 .wide2 .ensures)) (going .if3 .left) (ap (λ (p : ℕ). getD (here .loop .s .code) p noInstruction) (at-code-place .code-place .ensures)) (came met) (at-decided .decided .ensures) (unstopped .if5 .left) b in omega arith
-
-mul-row-2 : tie.Need-mul-row-2 Inv-loop μ-loop
-mul-row-2 c =
-    let at-wide2 = c .before .before .before .before .before .before .before .before .before .before .before .before .before .before .before .before .before .before .before .before .before .before .before .before .before .before .before in
-    let takes = at-wide2 .before in
-    let inside = takes .before .before in
-    let here = inside .before in
-    let begun = here .before .before in
-    let h = take-there (here .loop .inv .good) (begun .pre .1 .0 (here .loop .k) (inside .loop-test .taken)) (takes .if1 .left) .1 (at-wide2 .wide2 .ensures) in
-    let m = here .loop .inv .good .runnable .inRange .threads in
-    omega arith
-
-element-set-from-row-2 : tie.Need-element-set-from-row-2 Inv-loop μ-loop
-element-set-from-row-2 c =
-    let at-wide2 = c .before .before .before .before .before .before .before .before .before .before .before .before .before .before .before .before .before .before .before .before .before .before .before .before .before .before .before in
-    let takes = at-wide2 .before in
-    let inside = takes .before .before in
-    let here = inside .before in
-    let begun = here .before .before in
-    let h = take-there (here .loop .inv .good) (begun .pre .1 .0 (here .loop .k) (inside .loop-test .taken)) (takes .if1 .left) .1 (at-wide2 .wide2 .ensures) in
+    let here = at-wide2 .before .before .before .before in
+    let h = row at-wide2 in
     let m = here .loop .inv .good .runnable .inRange .threads in
     omega arith
 
 mul-word-2 : tie.Need-mul-word-2 Inv-loop μ-loop
 mul-word-2 c =
-    let at-cell-of = c .before .before .before .before .before .before .before in
+    let at-cell-of = c .before .before .before .before in
     let at-code-place = at-cell-of .before .before .before .before .before .before .before .before .before .before .before .before .before .before .before .before in
     let going = at-code-place .before in
     let at-wide2 = going .before .before .before in
-    let takes = at-wide2 .before in
-    let inside = takes .before .before in
-    let here = inside .before in
-    let begun = here .before .before in
-    let k = current-lookable (here .loop .inv .good .runnable .inRange) (take-there (here .loop .inv .good) (begun .pre .1 .0 (here .loop .k) (inside .loop-test .taken)) (takes .if1 .left) .1 (at-wide2 .wide2 .ensures)) (going .if3 .left) (ap (λ (p : ℕ). getD (here .loop .s .code) p noInstruction) (at-code-place .code-place .ensures)) in
+    let here = at-wide2 .before .before .before .before in
+    let k = current-lookable (here .loop .inv .good .runnable .inRange) (row at-wide2) (going .if3 .left) (current at-code-place) in
     let h = k .cell in
     let e = at-cell-of .cell-of .ensures in
     omega arith
 
 element-set-from-word-2 : tie.Need-element-set-from-word-2 Inv-loop μ-loop
 element-set-from-word-2 c =
-    let at-cell-of = c .before .before .before .before .before .before .before in
+    let at-cell-of = c .before .before .before .before in
     let at-code-place = at-cell-of .before .before .before .before .before .before .before .before .before .before .before .before .before .before .before .before in
     let going = at-code-place .before in
     let at-wide2 = going .before .before .before in
-    let takes = at-wide2 .before in
-    let inside = takes .before .before in
-    let here = inside .before in
-    let begun = here .before .before in
-    let k = current-lookable (here .loop .inv .good .runnable .inRange) (take-there (here .loop .inv .good) (begun .pre .1 .0 (here .loop .k) (inside .loop-test .taken)) (takes .if1 .left) .1 (at-wide2 .wide2 .ensures)) (going .if3 .left) (ap (λ (p : ℕ). getD (here .loop .s .code) p noInstruction) (at-code-place .code-place .ensures)) in
+    let here = at-wide2 .before .before .before .before in
+    let k = current-lookable (here .loop .inv .good .runnable .inRange) (row at-wide2) (going .if3 .left) (current at-code-place) in
     let h = k .cell in
     let e = at-cell-of .cell-of .ensures in
     omega arith
 
 mul-content : tie.Need-mul-content Inv-loop μ-loop
 mul-content c =
-    let at-register-place = c .before .before .before .before .before .before in
+    let at-register-place = c .before .before .before in
     let at-code-place = at-register-place .before .before .before .before .before .before .before .before .before .before .before .before .before .before .before .before .before in
     let going = at-code-place .before in
     let at-wide2 = going .before .before .before in
-    let takes = at-wide2 .before in
-    let inside = takes .before .before in
-    let here = inside .before in
-    let begun = here .before .before in
-    let k = current-lookable (here .loop .inv .good .runnable .inRange) (take-there (here .loop .inv .good) (begun .pre .1 .0 (here .loop .k) (inside .loop-test .taken)) (takes .if1 .left) .1 (at-wide2 .wide2 .ensures)) (going .if3 .left) (ap (λ (p : ℕ). getD (here .loop .s .code) p noInstruction) (at-code-place .code-place .ensures)) in
+    let here = at-wide2 .before .before .before .before in
+    let k = current-lookable (here .loop .inv .good .runnable .inRange) (row at-wide2) (going .if3 .left) (current at-code-place) in
     let h = k .thread in
     let r = k .register in
     let e = at-register-place .register-place .ensures in
@@ -435,15 +379,12 @@ mul-content c =
 
 element-set-from-content : tie.Need-element-set-from-content Inv-loop μ-loop
 element-set-from-content c =
-    let at-register-place = c .before .before .before .before .before .before in
+    let at-register-place = c .before .before .before in
     let at-code-place = at-register-place .before .before .before .before .before .before .before .before .before .before .before .before .before .before .before .before .before in
     let going = at-code-place .before in
     let at-wide2 = going .before .before .before in
-    let takes = at-wide2 .before in
-    let inside = takes .before .before in
-    let here = inside .before in
-    let begun = here .before .before in
-    let k = current-lookable (here .loop .inv .good .runnable .inRange) (take-there (here .loop .inv .good) (begun .pre .1 .0 (here .loop .k) (inside .loop-test .taken)) (takes .if1 .left) .1 (at-wide2 .wide2 .ensures)) (going .if3 .left) (ap (λ (p : ℕ). getD (here .loop .s .code) p noInstruction) (at-code-place .code-place .ensures)) in
+    let here = at-wide2 .before .before .before .before in
+    let k = current-lookable (here .loop .inv .good .runnable .inRange) (row at-wide2) (going .if3 .left) (current at-code-place) in
     let h = k .thread in
     let r = k .register in
     let e = at-register-place .register-place .ensures in
@@ -451,76 +392,61 @@ element-set-from-content c =
 
 mul-s : tie.Need-mul-s Inv-loop μ-loop
 mul-s c =
-    let at-wide2 = c .before .before .before .before .before .before .before .before .before .before .before .before .before .before .before .before .before .before .before .before .before .before .before .before .before .before .before in
-    let takes = at-wide2 .before in
-    let inside = takes .before .before in
-    let here = inside .before in
-    let begun = here .before .before in
-    let h = take-there (here .loop .inv .good) (begun .pre .1 .0 (here .loop .k) (inside .loop-test .taken)) (takes .if1 .left) .1 (at-wide2 .wide2 .ensures) in
+    let at-wide2 = c .before .before .before .before .before .before .before .before .before .before .before .before .before .before .before .before .before .before .before .before .before .before .before .before in
+    let here = at-wide2 .before .before .before .before in
+    let h = row at-wide2 in
     let m = here .loop .inv .good .runnable .inRange .threads in
     omega arith
 
 element-write-s : tie.Need-element-write-s Inv-loop μ-loop
 element-write-s c =
-    let at-wide2 = c .before .before .before .before .before .before .before .before .before .before .before .before .before .before .before .before .before .before .before .before .before .before .before .before .before .before .before in
-    let takes = at-wide2 .before in
-    let inside = takes .before .before in
-    let here = inside .before in
-    let begun = here .before .before in
-    let h = take-there (here .loop .inv .good) (begun .pre .1 .0 (here .loop .k) (inside .loop-test .taken)) (takes .if1 .left) .1 (at-wide2 .wide2 .ensures) in
+    let at-wide2 = c .before .before .before .before .before .before .before .before .before .before .before .before .before .before .before .before .before .before .before .before .before .before .before .before in
+    let here = at-wide2 .before .before .before .before in
+    let h = row at-wide2 in
     let m = here .loop .inv .good .runnable .inRange .threads in
     omega arith
 
 put-flag-requires : tie.Need-put-flag-requires Inv-loop μ-loop
 put-flag-requires c κs =
-    let at-wide2 = c .before .before .before .before .before .before .before .before .before .before .before .before .before .before .before .before .before .before .before .before .before .before .before .before .before .before .before .before in
-    let takes = at-wide2 .before in
-    let inside = takes .before .before in
-    let here = inside .before in
-    let begun = here .before .before in
-    let h = take-there (here .loop .inv .good) (begun .pre .1 .0 (here .loop .k) (inside .loop-test .taken)) (takes .if1 .left) .1 (at-wide2 .wide2 .ensures) in
+    let at-wide2 = c .before .before .before .before .before .before .before .before .before .before .before .before .before .before .before .before .before .before .before .before .before .before .before .before .before in
+    let here = at-wide2 .before .before .before .before in
+    let h = row at-wide2 in
     let m = here .loop .inv .good .runnable .inRange .threads in
     omega arith
 
 put-owner-requires : tie.Need-put-owner-requires Inv-loop μ-loop
 put-owner-requires c κs =
-    let at-cell-of = c .before .before .before .before .before .before .before .before .before .before in
+    let at-cell-of = c .before .before .before .before .before .before .before in
     let at-code-place = at-cell-of .before .before .before .before .before .before .before .before .before .before .before .before .before .before .before .before in
     let going = at-code-place .before in
     let at-wide2 = going .before .before .before in
-    let takes = at-wide2 .before in
-    let inside = takes .before .before in
-    let here = inside .before in
-    let begun = here .before .before in
-    let k = current-lookable (here .loop .inv .good .runnable .inRange) (take-there (here .loop .inv .good) (begun .pre .1 .0 (here .loop .k) (inside .loop-test .taken)) (takes .if1 .left) .1 (at-wide2 .wide2 .ensures)) (going .if3 .left) (ap (λ (p : ℕ). getD (here .loop .s .code) p noInstruction) (at-code-place .code-place .ensures)) in
+    let here = at-wide2 .before .before .before .before in
+    let k = current-lookable (here .loop .inv .good .runnable .inRange) (row at-wide2) (going .if3 .left) (current at-code-place) in
     let h = k .cell in
     let e = at-cell-of .cell-of .ensures in
     omega arith
 
 put-sharing-requires : tie.Need-put-sharing-requires Inv-loop μ-loop
 put-sharing-requires c κs =
-    let at-cell-of = c .before .before .before .before .before .before .before .before .before .before .before .before in
+    let at-cell-of = c .before .before .before .before .before .before .before .before .before in
     let at-code-place = at-cell-of .before .before .before .before .before .before .before .before .before .before .before .before .before .before .before .before in
     let going = at-code-place .before in
     let at-wide2 = going .before .before .before in
-    let takes = at-wide2 .before in
-    let inside = takes .before .before in
-    let here = inside .before in
-    let begun = here .before .before in
-    let k = current-lookable (here .loop .inv .good .runnable .inRange) (take-there (here .loop .inv .good) (begun .pre .1 .0 (here .loop .k) (inside .loop-test .taken)) (takes .if1 .left) .1 (at-wide2 .wide2 .ensures)) (going .if3 .left) (ap (λ (p : ℕ). getD (here .loop .s .code) p noInstruction) (at-code-place .code-place .ensures)) in
+    let here = at-wide2 .before .before .before .before in
+    let k = current-lookable (here .loop .inv .good .runnable .inRange) (row at-wide2) (going .if3 .left) (current at-code-place) in
     let h = k .cell in
     let e = at-cell-of .cell-of .ensures in
     omega arith
 
 mul-value : tie.Need-mul-value Inv-loop μ-loop
 mul-value c =
-    let inside = c .before .before .before .before .before .before .before .before .before .before .before .before .before .before .before .before .before .before .before .before .before .before .before .before .before .before .before .before .before .before .before .before .before .before .before .before in
+    let inside = c .before .before .before .before .before .before .before .before .before .before .before .before .before .before .before .before .before .before .before .before .before .before .before .before .before .before .before .before .before .before .before .before .before in
     let begun = inside .before .before .before in
     let s = begun in omega (arith, s .good .1 .1 .0 .1, s .pre .1 .1, (inside .loop-test .taken))
 
 slice-set-from-value : tie.Need-slice-set-from-value Inv-loop μ-loop
 slice-set-from-value c =
-    let inside = c .before .before .before .before .before .before .before .before .before .before .before .before .before .before .before .before .before .before .before .before .before .before .before .before .before .before .before .before .before .before .before .before .before .before .before .before in
+    let inside = c .before .before .before .before .before .before .before .before .before .before .before .before .before .before .before .before .before .before .before .before .before .before .before .before .before .before .before .before .before .before .before .before .before in
     let here = inside .before in
     let begun = here .before .before in
     let l = here .loop .inv .long in
@@ -529,26 +455,21 @@ slice-set-from-value c =
 
 add-k-2 : tie.Need-add-k-2 Inv-loop μ-loop
 add-k-2 c =
-    let inside = c .before .before .before .before .before .before .before .before .before .before .before .before .before .before .before .before .before .before .before .before .before .before .before .before .before .before .before .before .before .before .before .before .before .before .before .before in
+    let inside = c .before .before .before .before .before .before .before .before .before .before .before .before .before .before .before .before .before .before .before .before .before .before .before .before .before .before .before .before .before .before .before .before .before in
     let begun = inside .before .before .before in
     let s = begun in omega (arith, s .good .1 .0 .0, (inside .loop-test .taken))
 
 loop-less-2 : tie.Need-loop-less-2 Inv-loop μ-loop
 loop-less-2 c =
-    let inside = c .before .before .before .before .before .before .before .before .before .before .before .before .before .before .before .before .before .before .before .before .before .before .before .before .before .before .before .before .before .before .before .before .before .before .before .before in
+    let inside = c .before .before .before .before .before .before .before .before .before .before .before .before .before .before .before .before .before .before .before .before .before .before .before .before .before .before .before .before .before .before .before .before .before .before .before in
     omega (arith, (inside .loop-test .taken))
 
 loop-again-2 : tie.Need-loop-again-2 Inv-loop μ-loop
 loop-again-2 c =
-    let x = c .before .before .before .before .before .before .before .before .before .before .before .before .before .before .before .before .before .before .decided .result in
-    let zw : toZ w32 (ofZ w32 (x .effect .word)) ≡ x .effect .word = search needs in
-    let zc : toZ w32 (ofZ w32 (x .effect .content)) ≡ x .effect .content = search needs in
-    let zv : toZ w32 (ofZ w32 (x .effect .value)) ≡ x .effect .value = search needs in
-    let zp : toZ w32 (ofZ w32 (x .effect .pushed)) ≡ x .effect .pushed = search needs in
-    let at-put-owner = c .before .before in
+    let at-put-sharing = c .before .before in
+    let at-put-owner = at-put-sharing .before .before in
     let at-put-flag = at-put-owner .before .before in
-    let at-after = at-put-flag .before .before .before .before .before in
-    let at-register-place = at-after .before .before .before in
+    let at-register-place = at-put-flag .before .before .before .before .before in
     let at-cell-of = at-register-place .before in
     let unstopped = at-cell-of .before .before .before in
     let at-decided = unstopped .before .before in
@@ -560,9 +481,75 @@ loop-again-2 c =
     let inside = takes .before .before in
     let here = inside .before in
     let begun = here .before .before in
+    let x = at-decided .decided .result in
     let l = here .loop in
-    took-placed (l .s) _ (l .k) (l .values) _ (x .effect) (x .held) (at-cell-of .cell-of .ensures) (at-register-place .register-place .ensures) zw zc zv zp (at-after .after .ensures) (at-put-flag .put-flag .ensures) (at-put-owner .put-owner .ensures) (c .put-sharing .ensures)
-    (turn checkedOf (l .inv) _ (taken-checked (here .loop .inv .good .runnable .inRange) (take-there (here .loop .inv .good) (begun .pre .1 .0 (here .loop .k) (inside .loop-test .taken)) (takes .if1 .left) .1 (at-wide2 .wide2 .ensures)) (going .if3 .left) (ap (λ (p : ℕ). getD (here .loop .s .code) p noInstruction) (at-code-place .code-place .ensures)) (came met) (at-decided .decided .ensures) (unstopped .if5 .left) refl ∙ take-item (l .s) (takes .if1 .left) (at-wide2 .wide2 .ensures)) (inside .loop-test .taken) (begun .pre .1 .1) refl (good-took (l .inv .good) (take-there (here .loop .inv .good) (begun .pre .1 .0 (here .loop .k) (inside .loop-test .taken)) (takes .if1 .left) .1 (at-wide2 .wide2 .ensures)) (going .if3 .left) (ap (λ (p : ℕ). getD (here .loop .s .code) p noInstruction) (at-code-place .code-place .ensures)) (came met) (at-decided .decided .ensures) (unstopped .if5 .left)))
+    let i = getD (l .s .code) (at-code-place .code-place .result) noInstruction in
+    took-placed (l .s) (at-wide2 .wide2 .result) (l .k) (l .values) i (x .effect) (x .held) (at-cell-of .cell-of .ensures) (at-register-place .register-place .ensures) (word-fits at-decided) (content-fits at-decided) (value-fits at-decided)
+    (row-kept (l .s) (at-wide2 .wide2 .result) i (x .effect) (not-true _ (c .if6 .taken))) (at-put-flag .put-flag .ensures) (at-put-owner .put-owner .ensures) (at-put-sharing .put-sharing .ensures)
+    (turn checkedOf (l .inv) _ (taken-checked (here .loop .inv .good .runnable .inRange) (row at-wide2) (going .if3 .left) (current at-code-place) (came met) (at-decided .decided .ensures) (unstopped .if5 .left) refl ∙ take-item (l .s) (takes .if1 .left) (at-wide2 .wide2 .ensures)) (inside .loop-test .taken) (begun .pre .1 .1) refl (good-took (l .inv .good) (row at-wide2) (going .if3 .left) (current at-code-place) (came met) (at-decided .decided .ensures) (unstopped .if5 .left)))
+
+cast-t81 : tie.Need-cast-t81 Inv-loop μ-loop
+cast-t81 c = omega arith
+
+pushed-requires : tie.Need-pushed-requires Inv-loop μ-loop
+pushed-requires c κs =
+    let pushing = c .before .before in
+    let unstopped = pushing .before .before .before .before .before .before .before .before .before .before .before .before .before .before .before in
+    let at-decided = unstopped .before .before in
+    let met = at-decided .before .before .before .before .before .before .before in
+    let at-code-place = met .before .before .before .before in
+    let going = at-code-place .before in
+    let at-wide2 = going .before .before .before in
+    let here = at-wide2 .before .before .before .before in
+    let m = here .loop .inv .good .runnable .inRange .depth in
+    let r = good-room (here .loop .inv .good) (row at-wide2) (going .if3 .left) (current at-code-place) (came met) (at-decided .decided .ensures) (unstopped .if5 .left) (not-false _ (pushing .if6 .left)) in
+    omega arith
+
+mul-row-2 : tie.Need-mul-row-2 Inv-loop μ-loop
+mul-row-2 c =
+    let at-wide2 = c .before .before .before .before .before .before .before .before .before .before .before .before .before .before .before .before .before .before .before .before .before .before .before .before .before .before .before .before .before .before .before .before .before .before .before in
+    let here = at-wide2 .before .before .before .before in
+    let h = row at-wide2 in
+    let m = here .loop .inv .good .runnable .inRange .threads in
+    omega arith
+
+element-set-from-row-2 : tie.Need-element-set-from-row-2 Inv-loop μ-loop
+element-set-from-row-2 c =
+    let at-wide2 = c .before .before .before .before .before .before .before .before .before .before .before .before .before .before .before .before .before .before .before .before .before .before .before .before .before .before .before .before .before .before .before .before .before .before .before in
+    let here = at-wide2 .before .before .before .before in
+    let h = row at-wide2 in
+    let m = here .loop .inv .good .runnable .inRange .threads in
+    omega arith
+
+loop-less-3 : tie.Need-loop-less-3 Inv-loop μ-loop
+loop-less-3 c =
+    let inside = c .before .before .before .before .before .before .before .before .before .before .before .before .before .before .before .before .before .before .before .before .before .before .before .before .before .before .before .before .before .before .before .before .before .before .before .before .before .before in
+    omega (arith, (inside .loop-test .taken))
+
+loop-again-3 : tie.Need-loop-again-3 Inv-loop μ-loop
+loop-again-3 c =
+    let pushing = c .before .before .before in
+    let at-put-sharing = pushing .before .before in
+    let at-put-owner = at-put-sharing .before .before in
+    let at-put-flag = at-put-owner .before .before in
+    let at-register-place = at-put-flag .before .before .before .before .before in
+    let at-cell-of = at-register-place .before in
+    let unstopped = at-cell-of .before .before .before in
+    let at-decided = unstopped .before .before in
+    let met = at-decided .before .before .before .before .before .before .before in
+    let at-code-place = met .before .before .before .before in
+    let going = at-code-place .before in
+    let at-wide2 = going .before .before .before in
+    let takes = at-wide2 .before in
+    let inside = takes .before .before in
+    let here = inside .before in
+    let begun = here .before .before in
+    let x = at-decided .decided .result in
+    let l = here .loop in
+    let i = getD (l .s .code) (at-code-place .code-place .result) noInstruction in
+    took-placed (l .s) (at-wide2 .wide2 .result) (l .k) (l .values) i (x .effect) (x .held) (at-cell-of .cell-of .ensures) (at-register-place .register-place .ensures) (word-fits at-decided) (content-fits at-decided) (value-fits at-decided)
+    (row-pushed (l .s) (at-wide2 .wide2 .result) i (x .effect) (not-false _ (pushing .if6 .left)) (pushed-fits at-decided) (c .pushed .ensures)) (at-put-flag .put-flag .ensures) (at-put-owner .put-owner .ensures) (at-put-sharing .put-sharing .ensures)
+    (turn checkedOf (l .inv) _ (taken-checked (here .loop .inv .good .runnable .inRange) (row at-wide2) (going .if3 .left) (current at-code-place) (came met) (at-decided .decided .ensures) (unstopped .if5 .left) refl ∙ take-item (l .s) (takes .if1 .left) (at-wide2 .wide2 .ensures)) (inside .loop-test .taken) (begun .pre .1 .1) refl (good-took (l .inv .good) (row at-wide2) (going .if3 .left) (current at-code-place) (came met) (at-decided .decided .ensures) (unstopped .if5 .left)))
 
 same-length-4 : tie.Need-same-length-4 Inv-loop μ-loop
 same-length-4 c = c .before .loop .inv .long
@@ -616,10 +603,6 @@ ran-spec =
     returns-3
     cell-of-requires
     register-place-requires
-    cast-t71
-    after-requires
-    mul-row-2
-    element-set-from-row-2
     mul-word-2
     element-set-from-word-2
     mul-content
@@ -634,5 +617,11 @@ ran-spec =
     add-k-2
     loop-less-2
     loop-again-2
+    cast-t81
+    pushed-requires
+    mul-row-2
+    element-set-from-row-2
+    loop-less-3
+    loop-again-3
     same-length-4
     returns-4)
