@@ -3,7 +3,6 @@ ghost use mathlib.Core.Path.{_≡_};
 ghost use Prim.Native.Nat.{_≤_, _<_};
 ghost use lib.ListN.{length};
 ghost use Rattle.reader.specs.Range.{InRange};
-ghost use Rattle.reader.specs.State.{noQueue};
 ghost use Rattle.machine.specs.Run.{Answers};
 ghost use Rattle.machine.specs.Plain.{Threads, atOnce, plainStep, plainOf};
 use crate::effect;
@@ -12,7 +11,6 @@ use crate::outcome;
 use crate::outcome::Outcome;
 use crate::outcome::Ran;
 use reader::bytes;
-use reader::state::Pending;
 use reader::state::Queue;
 use reader::state::State;
 
@@ -29,18 +27,6 @@ fn at_once(e: Effect) -> Effect
     f
 }
 
-// The buffer of every thread here.
-fn no_queue() -> Queue
-    ensures { λ r. ⌜ r ≡ noQueue ⌝ }
-{
-    let entry = Pending { value: 0, cell: 0 };
-    let entries = [entry; State::DEPTH];
-    Queue {
-        entries: entries,
-        count: 0,
-    }
-}
-
 // The next instruction of row t.
 pub fn stepped(m: State, t: usize) -> Outcome
     requires { ⌜ InRange m × (t < m .threads) ⌝ }
@@ -54,7 +40,7 @@ pub fn stepped(m: State, t: usize) -> Outcome
     let p = effect::code_place(t, at);
     let i = m.code[p];
     let v = effect::looked(&m.memory, &m.registers, t, at, i);
-    let e = at_once(effect::change(v, no_queue(), i));
+    let e = at_once(effect::change(v, Queue::empty(), i));
     outcome::taken(effect::applied(m, t, i, e), e.value)
 }
 

@@ -4,7 +4,7 @@ ghost use Prim.Native.Nat.{_<_, _≤_};
 ghost use Rattle.reader.specs.Limits.{DEPTH};
 ghost use Rattle.reader.specs.Queue.{movedUp, poppedOf, pushedOf};
 ghost use Rattle.reader.specs.Rules.{pick};
-ghost use Rattle.reader.specs.State.{freshOf};
+ghost use Rattle.reader.specs.State.{noQueue, freshOf};
 ghost use Rattle.reader.specs.Drain.{Drainable, drainedOf};
 
 // A debugger lends a State over the C boundary: C layout, numbers only, and wide fields first, so that no byte of it is padding.
@@ -73,6 +73,18 @@ fn moved_up(here: Pending, behind: Pending, j: usize, last: usize) -> Pending
 // A move writes every place of the row, and chooses what: a loop of fixed length over whole entries stays in registers, where one store at a
 // place known only at run time would send the whole row through memory and back.
 impl Queue {
+    // The row without any entry: zero everywhere.
+    pub fn empty() -> Queue
+        ensures { λ r. ⌜ r ≡ noQueue ⌝ }
+    {
+        let entry = Pending { value: 0, cell: 0 };
+        let entries = [entry; State::DEPTH];
+        Queue {
+            entries: entries,
+            count: 0,
+        }
+    }
+
     // The row without its oldest entry: later ones moved up, the vacated place zeroed.
     pub fn popped(self) -> Queue
         requires { ⌜ (0 < self .count) × (self .count ≤ DEPTH) ⌝ }
@@ -131,12 +143,7 @@ impl State {
     pub fn fresh() -> Self
         ensures { λ r. ⌜ r ≡ freshOf ⌝ }
     {
-        let entry = Pending { value: 0, cell: 0 };
-        let entries = [entry; State::DEPTH];
-        let queue = Queue {
-            entries: entries,
-            count: 0,
-        };
+        let queue = Queue::empty();
         let queues = [queue; State::THREADS];
         let instruction = Instruction {
             value: 0,

@@ -57,8 +57,8 @@ looked-requires c κs =
     let l = c .before .before .before .before .before .if1 .left in
     current-lookable (s .pre .0) (s .pre .1) l (ap (λ (p : ℕ). getD (s .args .t1 .code) p noInstruction) (c .before .before .before .before .code-place .ensures))
 
-no-queue-requires : tie.Need-no-queue-requires
-no-queue-requires c κs = search needs
+empty-requires : tie.Need-empty-requires
+empty-requires c κs = search needs
 
 change-requires : tie.Need-change-requires
 change-requires c κs =
@@ -66,7 +66,7 @@ change-requires c κs =
     let l = c .before .before .before .before .before .before .before .if1 .left in
     let e = looked-at _ _ _ _ _ (c .before .looked .ensures) in
     let k = position-below (s .pre .0) (s .pre .1) l in
-    (omega arith, rw (c .no-queue .ensures) (omega arith))
+    (omega arith, rw (c .empty .ensures) (omega arith))
 
 at-once-requires : tie.Need-at-once-requires
 at-once-requires c κs = search needs
@@ -86,7 +86,7 @@ returns-2 c =
     let l = c .before .before .before .before .before .before .before .before .before .before .before .before .if1 .left in
     let x = c .before .before .before .at-once .result in
     let zv : toZ w32 (ofZ w32 (x .value)) ≡ x .value = search needs in
-    rw zv at (c .taken .ensures) ∙ plain-step (s .pre .0) (s .pre .1) l (ap (λ (p : ℕ). getD (s .args .t1 .code) p noInstruction) (c .before .before .before .before .before .before .before .before .before .before .before .code-place .ensures)) (c .before .before .before .before .before .before .looked .ensures) (c .before .before .before .before .before .no-queue .ensures) (c .before .before .before .before .change .ensures) (c .before .before .before .at-once .ensures) (c .before .before .applied .ensures)
+    rw zv at (c .taken .ensures) ∙ plain-step (s .pre .0) (s .pre .1) l (ap (λ (p : ℕ). getD (s .args .t1 .code) p noInstruction) (c .before .before .before .before .before .before .before .before .before .before .before .code-place .ensures)) (c .before .before .before .before .before .before .looked .ensures) (c .before .before .before .before .before .empty .ensures) (c .before .before .before .before .change .ensures) (c .before .before .before .at-once .ensures) (c .before .before .applied .ensures)
 
 pub stepped-spec : {M : Type 1} → statement M
 stepped-spec =
@@ -102,7 +102,7 @@ stepped-spec =
     mul-i
     element-copy-out-i
     looked-requires
-    no-queue-requires
+    empty-requires
     change-requires
     at-once-requires
     applied-requires
