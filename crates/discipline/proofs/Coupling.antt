@@ -20,14 +20,19 @@ use Rattle.discipline.proofs.Waiting.{waits-early, fits-keep, fits-skip
 module _ {L : Type 0} (next : L → Act L) where
   -- one thread's part. sm: the memory of the machine with buffers, tm: the one memory; lf and l: the thread's local states in the two; q, d, k: its queue, flag and counts
   pub record Good (T : Table) (sm tm : ℕ → ℤ) (i : ℕ) (lf : L) (q : List Pending) (d : Bool) (k : List ℕ) (l : L) : Type 0 where
+    -- an own cell has in the one memory what the thread's early stores would leave in it
     pub value : (c : ℕ) → T .owner c ≡ suc i → tm c ≡ drained (early q k) sm c
+    -- early stores are to own local cells; behind them each waiting store takes the thread, alone, a stretch further, and all of them to where it is
     pub fits : Fits next T i tm l q k lf
+    -- a pending store is to a cell that no other thread owns
     pub mine : (c : ℕ) → pends q c ≡ true → Open i (T .owner c)
+    -- with a clear flag nothing waits
     pub calm : d ≡ false → busy k ≡ false
 
   abbrev pub Good-at : Table → (ℕ → ℤ) → (ℕ → ℤ) → Machine L → (ℕ → List ℕ) → Plain L → ℕ → Type 0
   Good-at T sm tm s k t i = Good T sm tm i (s .threads i .loc) (s .threads i .queue) (s .threads i .dirty) (k i) (t .locs i)
 
+  -- the whole: a cell that nobody owns has the same value in both memories, and every thread's part holds
   pub record Inv (s : Machine L) (k : ℕ → List ℕ) (t : Plain L) : Type 0 where
     pub free : (c : ℕ) → s .table .owner c ≡ 0 → t .mem c ≡ s .mem c
     pub good : (i : ℕ) → Good-at (s .table) (s .mem) (t .mem) s k t i
