@@ -11,11 +11,11 @@ is-own-requires c κs = search needs
 
 returns : tie.Need-returns
 unfolding storedOf
-returns c = rw (sym (c .before .before .before .is-own .ensures) ∙ c .before .before .if1 .taken, eq-eqb _ _ (c .if2 .taken))
+returns c = rw (sym (c .before .before .before .is-own .ensures) ∙ c .before .before .if1 .taken, eq-eqb _ 0 (c .if2 .taken))
 
 returns-2 : tie.Need-returns-2
 unfolding storedOf
-returns-2 c = rw (sym (c .before .before .before .is-own .ensures) ∙ c .before .before .if1 .taken, ne-eqb _ _ (c .if2 .left))
+returns-2 c = rw (sym (c .before .before .before .is-own .ensures) ∙ c .before .before .if1 .taken, ne-eqb _ 0 (c .if2 .left))
 
 returns-3 : tie.Need-returns-3
 unfolding storedOf
