@@ -1,14 +1,14 @@
 -- The two machines as the proof of point 3 sees them: over any thread-local state L and any program `next : L → Act L`, with memory, table and
--- threads as total maps. Thread i is written i + 1 as an owner, and 0 is nobody. That the machines of the definitions are instances is
+-- threads as total maps. Thread i is written suc i as an owner, and 0 is nobody. That the machines of the definitions are instances is
 -- shown in Taking and in Stepping.
 use mathlib.Core.Path.{◌≡◌}
 use mathlib.Core.Logic.{◌≢◌}
 use mathlib.Core.Bool.{Bool, false, ◌&&◌, ◌||◌, not}
 use mathlib.Core.List.{List, [], ◌∷◌, ◌++◌}
-use Prim.Native.Nat.{ℕ, ◌+◌}
+use Prim.Native.Nat.{ℕ, suc}
 use lib.Dec.{eqb}
 use lib.IntN.{ℤ}
-use Rattle.state.specs.declared.Pending.{Pending}
+use Rattle.reader.specs.declared.state.Pending.{Pending}
 use Rattle.discipline.specs.Order.{Plan, busy, quiet, stored}
 use Rattle.discipline.proofs.Maps.{upd}
 
@@ -46,7 +46,7 @@ pub record Plain (L : Type 0) : Type 0 where
 
 -- the owner o is nobody, or thread i
 abbrev pub Open : ℕ → ℕ → Type 0
-Open i o = (j : ℕ) → o ≡ j + 1 → j ≡ i
+Open i o = (j : ℕ) → o ≡ suc j → j ≡ i
 
 -- memory once all stores of a queue, oldest first, have drained: what a thread with that queue sees
 abbrev pub drained : List Pending → (ℕ → ℤ) → ℕ → ℤ
@@ -76,7 +76,7 @@ module _ {L : Type 0} where
 
   -- the flag after a store to c
   abbrev pub dirtied : Machine L → ℕ → ℕ → Bool → Bool
-  dirtied s i c d = d || not (eqb (s.table.owner c) (i + 1) && s.table.mark c)
+  dirtied s i c d = d || not (eqb (s.table.owner c) (suc i) && s.table.mark c)
 
   -- what is planned at an action that is taken; d: the flag after a store to a cell
   abbrev pub plan : Act L → (ℕ → Bool) → List ℕ → Plan
@@ -99,7 +99,7 @@ module _ {L : Type 0} (s : Machine L) (i : ℕ) where
   T = s.table
 
   pub data Readable (c : ℕ) : Type 0 where
-    own : T.owner c ≡ i + 1 → Readable c
+    own : T.owner c ≡ suc i → Readable c
     shared : T.mark c ≡ false → D ≡ false → Readable c
 
   -- thread i's action is taken by the machine with buffers, under the discipline
@@ -112,8 +112,8 @@ module _ {L : Type 0} (s : Machine L) (i : ℕ) where
     t_swap : {c : ℕ} {f : ℤ → ℤ} {k : ℤ → L} → Q ≡ [] → Open i (T.owner c) →
         Takes (swaps c f k) (with_thread s i (k (s.mem c)) Q false T (upd s.mem c (f (s.mem c))))
     t_acquire : {c : ℕ} {b : Bool} {l : L} → T.owner c ≡ 0 → ((j : ℕ) → j ≢ i → pends (s.threads j).queue c ≡ false) →
-        Takes (acquires c b l) (with_thread s i l Q D (enter T c (i + 1) b) s.mem)
-    t_release : {c : ℕ} {l : L} → T.owner c ≡ i + 1 → Q ≡ [] → Takes (releases c l) (with_thread s i l Q D (enter T c 0 false) s.mem)
+        Takes (acquires c b l) (with_thread s i l Q D (enter T c (suc i) b) s.mem)
+    t_release : {c : ℕ} {l : L} → T.owner c ≡ suc i → Q ≡ [] → Takes (releases c l) (with_thread s i l Q D (enter T c 0 false) s.mem)
 
   -- thread i's oldest pending store drains
   pub data Drains : Machine L → Type 0 where

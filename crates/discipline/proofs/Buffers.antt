@@ -11,11 +11,11 @@ use lib.Seq.{take-suc}
 use lib.Dec.{eqb}
 use lib.IntN.{ℤ}
 use borrow.Author.Tests.{eqb-true, eqb-false, ne_eqb}
-use Rattle.state.specs.declared.Pending.{Pending}
-use Rattle.state.specs.declared.Queue.{Queue}
-use Rattle.state.specs.State.{no_pending, outside_queue}
-use Rattle.state.specs.Queue.{pending}
-use Rattle.state.specs.Pick.{pick}
+use Rattle.reader.specs.declared.state.Pending.{Pending}
+use Rattle.reader.specs.declared.state.Queue.{Queue}
+use Rattle.reader.specs.State.{no_pending, outside_queue}
+use Rattle.reader.specs.Queue.{pending}
+use Rattle.reader.specs.Rules.{pick}
 use Rattle.machine.specs.Buffer.{newest_of, forwarded}
 use Rattle.discipline.specs.Elsewhere.{holds_of, holds, elsewhere_of}
 use Rattle.discipline.proofs.Maps.{upd, upd_same, upd_other}

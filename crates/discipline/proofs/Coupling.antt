@@ -4,21 +4,24 @@ use mathlib.Core.Path.{◌≡◌, refl, sym, ◌∙◌, ap, fun_ext}
 use mathlib.Core.Logic.{◌≢◌}
 use mathlib.Core.Bool.{Bool, true, false, true≢false, false≢true}
 use mathlib.Core.List.{List, [], ◌∷◌, ◌++◌}
-use Prim.Native.Nat.{ℕ, zero, suc, ◌+◌}
+use Prim.Native.Nat.{ℕ, zero, suc}
+use native.Mathlib.Nat.{suc-ne-zero}
 use lib.Dec.{eqb}
 use lib.IntN.{ℤ}
 use borrow.Author.Tests.{eqb-true, eq-eqb}
-use Rattle.state.specs.declared.Pending.{Pending}
+use Rattle.reader.specs.declared.state.Pending.{Pending}
 use Rattle.discipline.specs.Order.{busy, quiet, stored, drains}
 use Rattle.discipline.proofs.Maps.{upd, upd_same, upd_other, at_or}
-use Rattle.discipline.proofs.Abstract.{Act, stays, loads, stores, fences, swaps, acquires, releases, Table, enter, Machine, Plain, drained, pends, act, with_thread, Open, dirtied, plan, Readable, own, shared, Takes, t_silent, t_load, t_store, t_fence, t_swap, t_acquire, t_release, Drains, t_drain}
-use Rattle.discipline.proofs.Waiting.{calm_busy, owner_or, not_both, own_open, free_open, or_left, or_right, undirtied, stable, early, late, Agree, pends_snoc, upd_at, drained_at, drained_split, drained_snoc, one, solo, To, rest, done, end, link, Fits, waits_early, fits_keep, fits_skip, calm_loc, calm_move, calm_push, fits_push, fits_bump, empty_counts, empty_fits}
+use Rattle.discipline.proofs.Abstract.{Act, stays, loads, stores, fences, swaps, acquires, releases, Table, enter, Machine, Plain, drained, pends, act, with_thread, Open, dirtied, plan}
+use Rattle.discipline.proofs.Abstract.{Readable, own, shared, Takes, t_silent, t_load, t_store, t_fence, t_swap, t_acquire, t_release, Drains, t_drain}
+use Rattle.discipline.proofs.Waiting.{calm_busy, suc_open, zero_open, or_left, or_right, undirtied, stable, early, late, Agree, pends_snoc, upd_at, drained_at, drained_split, drained_snoc, one, solo, To, rest, done, end, link, Fits}
+use Rattle.discipline.proofs.Waiting.{waits_early, fits_keep, fits_skip, calm_loc, calm_move, calm_push, fits_push, fits_bump, empty_counts, empty_fits}
 
 module _ {L : Type 0} (next : L → Act L) where
   -- one thread's part. sm: the memory of the machine with buffers, tm: the one memory; lf and l: the thread's local states in the two; q, d, k: its queue, flag and counts
   pub record Good (T : Table) (sm tm : ℕ → ℤ) (i : ℕ) (lf : L) (q : List Pending) (d : Bool) (k : List ℕ) (l : L) : Type 0 where
     -- an own cell has in the one memory what the thread's early stores would leave in it
-    pub value : (c : ℕ) → T.owner c ≡ i + 1 → tm c ≡ drained (early q k) sm c
+    pub value : (c : ℕ) → T.owner c ≡ suc i → tm c ≡ drained (early q k) sm c
     -- early stores are to own local cells; behind them each waiting store takes the thread, alone, a stretch further, and all of them to where it is
     pub fits : Fits next T i tm l q k lf
     -- a pending store is to a cell that no other thread owns
@@ -114,7 +117,7 @@ module _ {L : Type 0} (next : L → Act L) where
           calm = λ z. absurd (true≢false (sym dt ∙ z));
         }
 
-    good_early : {lf' : L} {d' : Bool} (x : Pending) → busy k ≡ false → T.owner x.cell ≡ i + 1 → T.mark x.cell ≡ true →
+    good_early : {lf' : L} {d' : Bool} (x : Pending) → busy k ≡ false → T.owner x.cell ≡ suc i → T.mark x.cell ≡ true →
         Good T sm (upd tm x.cell x.value) i lf' (q ++ x ∷ []) d' (k ++ 0 ∷ []) lf'
     good_early {lf'} x b o p =
         let f : Fits next T i (upd tm x.cell x.value) lf' (q ++ x ∷ []) (k ++ 0 ∷ []) lf' = calm_push x o p b (calm_move b g.fits) in
@@ -123,27 +126,27 @@ module _ {L : Type 0} (next : L → Act L) where
               upd_at tm (drained q sm) x.cell x.value c (g.value c e ∙ ap (λ r. drained r sm c) (calm_loc b g.fits).1)
               ∙ sym (ap (λ r. r c) (drained_snoc q x sm)) ∙ ap (λ r. drained r sm c) (sym (calm_loc (calm_busy k b) f).1);
           fits = f;
-          mine = pends_snoc q x g.mine (own_open i _ o);
+          mine = pends_snoc q x g.mine (suc_open i _ o);
           calm = λ z. calm_busy k b;
         }
 
-    good_acquire : (c : ℕ) (b : Bool) → T.owner c ≡ 0 → tm c ≡ sm c → Good (enter T c (i + 1) b) sm tm i lf q d k l
+    good_acquire : (c : ℕ) (b : Bool) → T.owner c ≡ 0 → tm c ≡ sm c → Good (enter T c (suc i) b) sm tm i lf q d k l
     good_acquire c b o same = record {
-      value = at_or {P = λ x. upd T.owner c (i + 1) x ≡ i + 1 → tm x ≡ drained (early q k) sm x} c
-          (λ e. same ∙ sym (fits_skip c (λ z y. not_both i z o) g.fits sm))
-          (λ x n e. g.value x (sym (upd_other T.owner c (i + 1) x n) ∙ e));
+      value = at_or {P = λ x. upd T.owner c (suc i) x ≡ suc i → tm x ≡ drained (early q k) sm x} c
+          (λ e. same ∙ sym (fits_skip c (λ z y. suc-ne-zero i (sym z ∙ o)) g.fits sm))
+          (λ x n e. g.value x (sym (upd_other T.owner c (suc i) x n) ∙ e));
       fits = fits_keep
-          (λ x e. let n : x ≢ c = λ z. not_both i (rw z at e) o in (upd_other T.owner c (i + 1) x n ∙ e, upd_other T.mark c b x n, refl)) g.fits;
-      mine = at_or {P = λ x. pends q x ≡ true → Open i (upd T.owner c (i + 1) x)} c
-          (λ z. own_open i _ (upd_same T.owner c (i + 1)))
-          (λ x n z. rw (upd_other T.owner c (i + 1) x n) (g.mine x z));
+          (λ x e. let n : x ≢ c = λ z. suc-ne-zero i (sym (rw z at e) ∙ o) in (upd_other T.owner c (suc i) x n ∙ e, upd_other T.mark c b x n, refl)) g.fits;
+      mine = at_or {P = λ x. pends q x ≡ true → Open i (upd T.owner c (suc i) x)} c
+          (λ z. suc_open i _ (upd_same T.owner c (suc i)))
+          (λ x n z. rw (upd_other T.owner c (suc i) x n) (g.mine x z));
       calm = g.calm;
     }
 
     good_release : (c : ℕ) → q ≡ [] → Good (enter T c 0 false) sm tm i lf q d k l
     good_release c qe = record {
-      value = at_or {P = λ x. upd T.owner c 0 x ≡ i + 1 → tm x ≡ drained (early q k) sm x} c
-          (λ e. absurd (not_both i e (upd_same T.owner c 0)))
+      value = at_or {P = λ x. upd T.owner c 0 x ≡ suc i → tm x ≡ drained (early q k) sm x} c
+          (λ e. absurd (suc-ne-zero i (sym e ∙ upd_same T.owner c 0)))
           (λ x n e. g.value x (sym (upd_other T.owner c 0 x n) ∙ e));
       fits = empty_fits qe g.fits;
       mine = λ x z. absurd (false≢true (sym (ap (λ r. pends r x) qe) ∙ z));
@@ -160,14 +163,14 @@ module _ {L : Type 0} (next : L → Act L) where
     good : Good T (upd sm e.cell e.value) one_mem i lf q d (drains k).counts loc
 
   good_drain : {T : Table} {sm tm : ℕ → ℤ} {i : ℕ} {lf : L} {e : Pending} {q : List Pending} {d : Bool} {k : List ℕ} {l : L} →
-      ((c : ℕ) → T.owner c ≡ i + 1 → tm c ≡ drained (early (e ∷ q) k) sm c) → ((c : ℕ) → pends (e ∷ q) c ≡ true → Open i (T.owner c)) → (d ≡ false → busy k ≡ false) →
+      ((c : ℕ) → T.owner c ≡ suc i → tm c ≡ drained (early (e ∷ q) k) sm c) → ((c : ℕ) → pends (e ∷ q) c ≡ true → Open i (T.owner c)) → (d ≡ false → busy k ≡ false) →
       Fits next T i tm l (e ∷ q) k lf → Drained T sm tm i lf e q d k l
   good_drain {tm} {i} {e} {l} value mine calm (done o p f) = record {
     loc = l;
     one_mem = tm;
     steps = refl;
     away = λ x n. refl;
-    there = λ z. absurd (not_both i o z);
+    there = λ z. absurd (suc-ne-zero i (sym o ∙ z));
     good = record { value = value; fits = f; mine = λ c z. mine c (or_right (eqb e.cell c) _ z); calm = calm };
   }
   good_drain {sm} {tm} {i} {e} value mine calm (rest (link {l'} f w)) = record {
@@ -196,19 +199,20 @@ module _ {L : Type 0} (next : L → Act L) where
 
     -- with nothing pending, a cell that is open to i is the same in both machines
     same_open : (c : ℕ) → Open i (s.table.owner c) → (s.threads i).queue ≡ [] → t.mem c ≡ s.mem c
-    same_open c o qe =
-        owner_or (s.table.owner c) (v.free c)
-        (λ j e. (v.good i).value c (e ∙ ap (λ n. n + 1) (o j e)) ∙ ap (λ r. drained (early r (k i)) s.mem c) qe)
+    same_open c o qe = go (s.table.owner c) refl
+      where
+        go : (n : ℕ) → s.table.owner c ≡ n → t.mem c ≡ s.mem c
+        go zero e = v.free c e
+        go (suc j) e = (v.good i).value c (e ∙ ap suc (o j e)) ∙ ap (λ r. drained (early r (k i)) s.mem c) qe
 
     -- a cell that i may load and that is the newest carried-out value
     load_early : (c : ℕ) → Readable s i c → t.mem c ≡ drained (early (s.threads i).queue (k i)) s.mem c
     load_early c (own o) = (v.good i).value c o
-    load_early c (shared p d) =
-        owner_or (s.table.owner c) (v.free c) (λ j e. (v.good j).value c e ∙ skip j)
-        ∙ sym (skip i)
+    load_early c (shared p d) = go (s.table.owner c) refl ∙ sym (fits_skip c (λ x y. true≢false (sym y ∙ p)) (v.good i).fits s.mem)
       where
-        skip : (j : ℕ) → drained (early (s.threads j).queue (k j)) s.mem c ≡ s.mem c
-        skip j = fits_skip c (λ x y. true≢false (sym y ∙ p)) (v.good j).fits s.mem
+        go : (o : ℕ) → s.table.owner c ≡ o → t.mem c ≡ s.mem c
+        go zero e = v.free c e
+        go (suc j) e = (v.good j).value c e ∙ fits_skip c (λ x y. true≢false (sym y ∙ p)) (v.good j).fits s.mem
 
     load_late : (c : ℕ) → busy (k i) ≡ true → Readable s i c → (m : ℕ → ℤ) → Agree (stable s.table i) m (drained (late (s.threads i).queue (k i)) t.mem) →
         m c ≡ drained (s.threads i).queue s.mem c
@@ -234,13 +238,13 @@ module _ {L : Type 0} (next : L → Act L) where
     sim_store {c} {x} true eb e o =
         inv_same s k t i v 0 refl (good_late (v.good i) (record { value = x; cell = c }) refl o (λ m. ap (λ y. act y (s.threads i).loc m) e))
     sim_store {c} {x} false eb e o =
-        let u = undirtied (s.threads i).dirty (eqb (s.table.owner c) (i + 1)) (s.table.mark c) eb in
+        let u = undirtied (s.threads i).dirty (eqb (s.table.owner c) (suc i)) (s.table.mark c) eb in
         let b = (v.good i).calm u.0 in
-        let oc = eqb-true (s.table.owner c) (i + 1) u.1 in
+        let oc = eqb-true (s.table.owner c) (suc i) u.1 in
         inv_at s k t i v c 1
         (ap (λ y. one next (y, t.mem)) (calm_loc b (v.good i).fits).0 ∙ ap (λ y. act y (s.threads i).loc t.mem) e)
         o o (record { on_owner = λ y n. refl; on_mark = λ y n. refl; on_mem = λ y n. refl; on_one = upd_other t.mem c x }) (λ j h. (v.good j).mine c)
-        (λ z. absurd (not_both i oc z))
+        (λ z. absurd (suc-ne-zero i (sym oc ∙ z)))
         (good_early (v.good i) (record { value = x; cell = c }) b oc u.2)
 
     sim_swap : {c : ℕ} {f : ℤ → ℤ} {g : ℤ → L} → next (s.threads i).loc ≡ swaps c f g → (s.threads i).queue ≡ [] → Open i (s.table.owner c) →
@@ -254,7 +258,7 @@ module _ {L : Type 0} (next : L → Act L) where
         o o (record { on_owner = λ z n. refl; on_mark = λ z n. refl; on_mem = upd_other s.mem c w; on_one = upd_other t.mem c w }) (λ j h. (v.good j).mine c)
         (λ z. upd_same t.mem c w ∙ sym (upd_same s.mem c w))
         (record {
-          value = λ x e'. upd_at t.mem s.mem c w x (same_open x (own_open i _ e') qe) ∙ sym (ap (λ r. drained (early r (k i)) (upd s.mem c w) x) qe);
+          value = λ x e'. upd_at t.mem s.mem c w x (same_open x (suc_open i _ e') qe) ∙ sym (ap (λ r. drained (early r (k i)) (upd s.mem c w) x) qe);
           fits = calm_move b (v.good i).fits;
           mine = (v.good i).mine;
           calm = λ z. b;
@@ -277,13 +281,13 @@ module _ {L : Type 0} (next : L → Act L) where
     sim (acquires c b l) e (t_acquire o pe) =
         let r = quietly (acquires c b l) e (v.good i).calm (λ z m x. refl) (λ z. refl) in
         inv_at s k t i v c (quiet (busy (k i)) (k i)).steps r.1
-        (free_open i _ o) (own_open i _ (upd_same s.table.owner c (i + 1))) (only_table c (i + 1) b)
+        (zero_open i _ o) (suc_open i _ (upd_same s.table.owner c (suc i))) (only_table c (suc i) b)
         (λ j h z. absurd (true≢false (sym z ∙ pe j h))) (λ z. v.free c o) (good_acquire r.2 c b o (v.free c o))
     sim (releases c l) e (t_release o qe) =
         let r = quietly (releases c l) e (v.good i).calm (λ z m x. refl) (λ z. refl) in
         inv_at s k t i v c (quiet (busy (k i)) (k i)).steps r.1
-        (own_open i _ o) (free_open i _ (upd_same s.table.owner c 0)) (only_table c 0 false)
-        (λ j h z. free_open j _ (upd_same s.table.owner c 0)) (λ z. same_open c (own_open i _ o) qe) (good_release r.2 c qe)
+        (suc_open i _ o) (zero_open i _ (upd_same s.table.owner c 0)) (only_table c 0 false)
+        (λ j h z. zero_open j _ (upd_same s.table.owner c 0)) (λ z. same_open c (suc_open i _ o) qe) (good_release r.2 c qe)
 
     pub sim_take : {s' : Machine L} → Takes s i (next (s.threads i).loc) s' → After s' (next (s.threads i).loc)
     sim_take h = sim (next (s.threads i).loc) refl h
@@ -321,7 +325,11 @@ module _ {L : Type 0} (next : L → Act L) where
 
   module _ (s : Machine L) (k : ℕ → List ℕ) (t : Plain L) (v : Inv s k t) (z : (i : ℕ) → (s.threads i).queue ≡ []) where
     pub alike_mem : (c : ℕ) → t.mem c ≡ s.mem c
-    alike_mem c = owner_or (s.table.owner c) (v.free c) (λ j e. same_open s k t j v c (own_open j _ e) (z j))
+    alike_mem c = go (s.table.owner c) refl
+      where
+        go : (o : ℕ) → s.table.owner c ≡ o → t.mem c ≡ s.mem c
+        go zero e = v.free c e
+        go (suc j) e = same_open s k t j v c (suc_open j _ e) (z j)
 
     pub alike_counts : (i : ℕ) → k i ≡ []
     alike_counts i = empty_counts (z i) (v.good i).fits

@@ -1,16 +1,19 @@
 -- What holds of an action that a rule does not stop: each rule as point 3 rests on it.
-use Prim.Native.Nat.{ℕ, ◌+◌, ◌<◌}
+use Prim.Native.Nat.{ℕ, suc, ◌+◌, ◌<◌}
 use mathlib.Core.Bool.{Bool, true, false, not, ◌&&◌, ◌||◌, true≢false}
-use mathlib.Core.Path.{◌≡◌, refl, ap, ◌∙◌}
+use mathlib.Core.Path.{◌≡◌, refl, ap, ◌∙◌, sym}
 use mathlib.Core.List.{[]}
+use native.Mathlib.Nat.{suc-ne-zero}
 use native.Mathlib.Omega.{arith}
+use native.Mathlib.Numerals.{add-one}
 use lib.ListN.{take}
 use lib.Dec.{eqb, leb}
 use borrow.Author.Tests.{eqb-true, leb-false}
-use Rattle.state.specs.declared.Queue.{Queue}
-use Rattle.state.specs.Queue.{pending}
+use Rattle.reader.specs.declared.state.Queue.{Queue}
+use Rattle.reader.specs.Queue.{pending}
 use Rattle.machine.specs.Effect.{guard, pends}
-use Rattle.discipline.specs.Table.{Held, owns, is_local, is_dirty}
+use Rattle.discipline.specs.declared.table.Held.{Held}
+use Rattle.discipline.specs.Table.{owns, is_local, is_dirty}
 use Rattle.discipline.specs.Rules.{load_breaks, store_breaks, acquire_breaks, release_breaks}
 use Rattle.discipline.specs.Marks.{stored_of}
 use Rattle.discipline.proofs.Abstract.{Open}
@@ -41,8 +44,8 @@ room_free depth q z = go (leb depth q.count) refl z
     go false e z = leb-false depth q.count e
 
 module _ (t : ℕ) (h : Held) where
-  own_is : owns h t ≡ true → h.owner ≡ t + 1
-  own_is e = eqb-true h.owner (t + 1) e
+  own_is : owns h t ≡ true → h.owner ≡ suc t
+  own_is e = eqb-true h.owner (t + 1) e ∙ add-one t
 
   -- the number of each rule that is broken
   load_30 : owns h t ≡ false → is_local h ≡ true → load_breaks t h ≡ 30
@@ -75,7 +78,7 @@ module _ (t : ℕ) (h : Held) where
 
   -- a LOAD: of an own cell, or of a shared one with a clear flag
   pub data Loadable : Type 0 where
-    of_own : h.owner ≡ t + 1 → Loadable
+    of_own : h.owner ≡ suc t → Loadable
     of_shared : is_local h ≡ false → is_dirty h ≡ false → Loadable
 
   pub load_free : load_breaks t h ≡ 0 → Loadable
@@ -92,7 +95,7 @@ module _ (t : ℕ) (h : Held) where
   store_free z j e = go (eqb h.owner 0) refl (owns h t) refl
     where
       go : (a : Bool) → eqb h.owner 0 ≡ a → (b : Bool) → owns h t ≡ b → j ≡ t
-      go true ea b eb = let z = eqb-true h.owner 0 ea in absurd (omega arith)
+      go true ea b eb = absurd (suc-ne-zero j (sym e ∙ eqb-true h.owner 0 ea))
       go false ea true eb = let o = eqb-true h.owner (t + 1) eb in omega arith
       go false ea false eb = absurd (omega (arith, store_32 ea eb, z))
 
@@ -106,10 +109,10 @@ module _ (t : ℕ) (h : Held) where
       go false ea b z = absurd (omega (arith, acquire_33 b ea, z))
 
   -- a RELEASE: of an own cell, with an empty buffer
-  pub release_free : (q : Queue) → release_breaks t h q ≡ 0 → (h.owner ≡ t + 1) × (pending q ≡ [])
+  pub release_free : (q : Queue) → release_breaks t h q ≡ 0 → (h.owner ≡ suc t) × (pending q ≡ [])
   release_free q z = go (owns h t) refl (pends q) refl
     where
-      go : (a : Bool) → owns h t ≡ a → (b : Bool) → pends q ≡ b → (h.owner ≡ t + 1) × (pending q ≡ [])
+      go : (a : Bool) → owns h t ≡ a → (b : Bool) → pends q ≡ b → (h.owner ≡ suc t) × (pending q ≡ [])
       go true ea true eb = absurd (omega (arith, release_36 q ea eb, z))
       go true ea false eb = (own_is ea, no_stores q eb)
       go false ea b eb = absurd (omega (arith, release_35 q ea, z))

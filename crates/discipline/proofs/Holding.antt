@@ -1,18 +1,17 @@
 -- The laws of the ownership table and the flag: what is read back after a change, of the same cell or row and of any other. Whoever
 -- speaks of the table after a step cites these, and not how the lists are kept.
 use Prim.Native.Nat.{ℕ, ◌<◌}
-use mathlib.Core.Path.{◌≡◌, refl, ap, ◌∙◌}
-use mathlib.Core.List.{List, []}
+use mathlib.Core.Path.{◌≡◌, refl}
 use native.Mathlib.Omega.{arith}
-use lib.ListN.{length, get_or, set, length-set}
 use lib.Seq.{get_or-set_same, get_or-set_other}
-use Rattle.state.specs.declared.Instruction.{Instruction}
-use Rattle.state.specs.declared.State.{State}
-use Rattle.state.specs.Limits.{THREADS, CELLS}
-use Rattle.state.specs.State.{dirty_of, owner_of, sharing_of}
+use Rattle.reader.specs.declared.state.Instruction.{Instruction}
+use Rattle.reader.specs.declared.state.State.{State}
+use Rattle.reader.specs.Limits.{THREADS, CELLS}
+use Rattle.reader.specs.State.{dirty_of, owner_of, sharing_of}
 use Rattle.reader.specs.Range.{Shaped}
 use Rattle.machine.specs.Effect.{cell_of}
-use Rattle.discipline.specs.Table.{Held, held_of, held_in, holding_of, Tabled, Puts}
+use Rattle.discipline.specs.declared.table.Held.{Held}
+use Rattle.discipline.specs.Table.{held_of, held_in, holding_of}
 
 -- what is held of an instruction is its cell's owner and mark and its row's flag
 pub held_parts : (s : State) (t : ℕ) (i : Instruction) → held_in s t i ≡ record { dirty = dirty_of s t; owner = owner_of s (cell_of i); sharing = sharing_of s (cell_of i) }
@@ -50,17 +49,3 @@ module _ (s : State) (t : ℕ) (i : Instruction) (h : Held) where
     -- so the rules then see what was put
     pub held_same : t < THREADS → cell_of i < CELLS → held_in (holding_of s t i h) t i ≡ h
     held_same lt lc = rw (held_parts (holding_of s t i h) t i, flag_same lt, owner_same lc, sharing_same lc) refl
-
--- an owner and a mark that are put into the table of a run
-pub puts : (T : List (List ℕ)) (c owner mark : ℕ) → Tabled T → Puts T c owner mark (set (set T 0 (set (get_or T 0 []) c owner)) 1 (set (get_or (set T 0 (set (get_or T 0 []) c owner)) 1 []) c mark))
-puts T c owner mark g =
-    let w = set (get_or T 0 []) c owner in
-    let U = set T 0 w in
-    let k : length U ≡ 2 = length-set T 0 w ∙ g in
-    let n : ◌≡◌ {A = ℕ} 1 0 → ⊥ = λ z. omega arith in
-    let o : ◌≡◌ {A = ℕ} 0 1 → ⊥ = λ z. omega arith in
-    record {
-      tabled = length-set U 1 _ ∙ k;
-      owners = get_or-set_other U 1 0 _ [] o ∙ get_or-set_same T 0 w [] (omega arith);
-      sharing = get_or-set_same U 1 _ [] (omega arith) ∙ ap (λ (l : List ℕ). set l c mark) (get_or-set_other T 0 1 w [] n);
-    }

@@ -1,12 +1,12 @@
 -- What an item that is taken keeps: a state that can be run on, with the same programs and as many threads.
-use Prim.Native.Nat.{ℕ, ◌+◌, ◌<◌}
+use Prim.Native.Nat.{ℕ, ◌+◌, ◌-◌, ◌<◌}
 use mathlib.Core.Bool.{true}
 use mathlib.Core.Path.{◌≡◌, refl, ◌∙◌}
 use native.Mathlib.Omega.{arith}
-use Rattle.state.specs.declared.State.{State}
-use Rattle.state.specs.State.{position_of, count_of}
-use Rattle.fields.specs.Rules.{item_fits}
-use Rattle.state.specs.Drain.{drained_of}
+use Rattle.reader.specs.declared.state.State.{State}
+use Rattle.reader.specs.State.{position_of, count_of}
+use Rattle.reader.specs.Rules.{item_fits}
+use Rattle.reader.specs.Drain.{drained_of}
 use Rattle.machine.specs.Effect.{blocked_of, took_of}
 use Rattle.machine.proofs.Take.{next_end, by_kind}
 use Rattle.machine.proofs.InRange.{at_end_or}
@@ -29,16 +29,16 @@ pub keeps_on : {s m o : State} → Keeps s m → Keeps m o → Keeps s o
 keeps_on a b = record { runnable = b.runnable; code = b.code ∙ a.code; counts = b.counts ∙ a.counts; threads = b.threads ∙ a.threads }
 
 -- a program goes on where its instruction is taken
-pub taken_goes : (s : State) (t : ℕ) → t < 16 → (checked_of s (t + 1)).number ≡ 0 → position_of s t < count_of s t
+pub taken_goes : (s : State) (t : ℕ) → t < 16 → (checked_of s (1 + t)).number ≡ 0 → position_of s t < count_of s t
 unfolding blocked_of
 taken_goes s t h z = at_end_or s t (λ k. k) (λ k. let e = rw (next_end s t k) at (neither s t h z).0 in absurd (omega arith))
 
 module _ {s : State} (g : Runnable s) where
-  drain_keeps : {t : ℕ} → t < s.threads → (checked_of s (t + 17)).number ≡ 0 → Keeps s (checked_of s (t + 17)).state
+  drain_keeps : {t : ℕ} → t < s.threads → (checked_of s (17 + t)).number ≡ 0 → Keeps s (checked_of s (17 + t)).state
   unfolding drained_of
   drain_keeps {t} h z = rw (drain_taken s t z) (record { runnable = drained_sound g h (pending_there s t z); code = refl; counts = refl; threads = refl })
 
-  take_keeps : {t : ℕ} → t < s.threads → (checked_of s (t + 1)).number ≡ 0 → Keeps s (checked_of s (t + 1)).state
+  take_keeps : {t : ℕ} → t < s.threads → (checked_of s (1 + t)).number ≡ 0 → Keeps s (checked_of s (1 + t)).state
   unfolding holding_of took_of
   take_keeps {t} h z =
       let n = g.in_range.threads in

@@ -1,5 +1,4 @@
 pub mod Searches
-pub mod PendingElsewhere
 pub mod Decided
 pub mod Holding
 pub mod Maps
@@ -12,16 +11,17 @@ pub mod Viewed
 pub mod Buffers
 pub mod Sound
 pub mod Turns
+pub mod Copied
+pub mod Checked
 pub mod One
-pub mod Numbers
 pub mod Meaning
+pub mod Coincide
 pub mod Outcomes
 pub mod Keeps
-pub mod Halts
 pub mod Fence
 pub mod Taking
 pub mod Logged
 pub mod Stepping
 pub mod Reduced
 pub mod Point3
-pub mod Twenty
+pub mod Theorem

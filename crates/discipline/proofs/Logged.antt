@@ -9,9 +9,9 @@ use lib.Dec.{eqb, leb}
 use lib.IntN.{ℤ}
 use lib.Seq.{append_snoc}
 use borrow.Author.Tests.{eqb-true, eq-eqb, ne_eqb, leb-true, lt-leb}
-use Rattle.state.specs.declared.State.{State}
-use Rattle.state.specs.State.{position_of}
-use Rattle.state.specs.Pick.{pick}
+use Rattle.reader.specs.declared.state.State.{State}
+use Rattle.reader.specs.State.{position_of}
+use Rattle.reader.specs.Rules.{pick}
 use Rattle.machine.specs.declared.outcome.Outcome.{Outcome}
 use Rattle.machine.specs.declared.outcome.Ran.{Ran}
 use Rattle.machine.specs.Action.{Action, next_of}

@@ -1,34 +1,28 @@
 -- A number is given for the smallest reason that stands against an item, and none is given where no reason stands.
-use Prim.Native.Nat.{ℕ, zero, suc, ◌+◌, ◌≤◌, ◌<◌}
+use Prim.Native.Nat.{ℕ, zero, suc, ◌+◌, ◌-◌, ◌≤◌, ◌<◌}
 use mathlib.Core.Bool.{Bool, true, false, not, ◌&&◌}
-use mathlib.Core.Logic.{◌≢◌}
-use mathlib.Core.Path.{◌≡◌, refl}
+use mathlib.Core.Path.{◌≡◌, refl, ap, ◌∙◌}
+use mathlib.Core.List.{List, [], ◌∷◌}
 use native.Mathlib.Omega.{arith}
+use lib.ListN.{length, take, get_or}
 use lib.Dec.{eqb, leb}
 use lib.IntN.{ℤ}
-use borrow.Author.Tests.{not-true, eqb-true, eqb-false, leb-true, le-leb, eq-eqb, ne_eqb}
-use Rattle.state.specs.declared.State.{State}
-use Rattle.state.specs.declared.Queue.{Queue}
-use Rattle.state.specs.State.{queue_of, position_of, count_of, dirty_of, owner_of, sharing_of}
-use Rattle.fields.specs.Rules.{item_fits}
-use Rattle.fields.proofs.Tests.{false_true}
-use Rattle.reader.specs.Range.{InRange}
-use Rattle.machine.specs.Action.{Action, read, store, fence, swap, acquire, release, silent, end, current_of, next_of}
-use Rattle.machine.specs.Effect.{cell_of, guard, pends, blocked_of}
-use Rattle.machine.specs.Plain.{ended_of}
-use Rattle.machine.proofs.Take.{current_cell, next_end, by_kind}
-use Rattle.machine.proofs.InRange.{at_end_or}
-use Rattle.machine.proofs.PlainTake.{goes_on}
-use Rattle.machine.proofs.About.{About, about}
-use Rattle.discipline.specs.Table.{Held, owned, owns, others, is_local, is_dirty}
-use Rattle.discipline.specs.Elsewhere.{elsewhere_of}
+use Rattle.machine.specs.declared.outcome.Outcome.{Outcome}
+use Rattle.machine.specs.declared.outcome.Ran.{Ran}
+use borrow.Author.Tests.{not-true, eqb-true, eqb-false, leb-true, leb-false, eq-eqb, ne_eqb}
+use Rattle.reader.specs.declared.state.State.{State}
+use Rattle.reader.specs.State.{queue_of}
+use Rattle.reader.specs.Rules.{pick}
+use Rattle.reader.proofs.Tests.{false_true}
+use Rattle.machine.specs.Action.{Action, read, store, fence, swap, acquire, release, silent, end, next_of}
+use Rattle.machine.specs.Effect.{guard, pends, blocked_of}
+use Rattle.machine.specs.Run.{unless, run_of}
+use Rattle.machine.specs.Step.{take_step, drain_step}
+use Rattle.discipline.specs.Table.{owned, owns, others, is_local, is_dirty}
 use Rattle.discipline.specs.Rules.{load_breaks, store_breaks, acquire_breaks, release_breaks, broken_of}
 use Rattle.discipline.specs.Decide.{judged_of}
-use Rattle.discipline.specs.Step.{checked_of}
-use Rattle.discipline.specs.Meaning.{Against, at_end, fence_waits, swap_waits, buffer_full, load_local, load_dirty, store_others, swap_others, acquire_owned, acquire_pending, release_not_own, release_waits, Stops, stops_take, stops_drain, Least, NumbersMean}
-use Rattle.discipline.proofs.Holding.{held_parts}
-use Rattle.discipline.proofs.Numbers.{judged_as, take_number, drain_number, item_drain, item_take}
-use Rattle.discipline.proofs.PendingElsewhere.{elsewhere_pending}
+use Rattle.discipline.specs.Step.{next_held, next_elsewhere, next_broken, checked_take, checked_of}
+use Rattle.discipline.specs.Meaning.{Against, at_end, fence_waits, swap_waits, buffer_full, load_local, load_dirty, store_others, swap_others, acquire_owned, acquire_pending, release_others, release_waits, Stops, stops_take, stops_drain, Least, Taken, none, more}
 
 -- a number and what it says of a relation: the smallest that stands, or 0 and none does
 pub record Judges (R : ℕ → Type 0) (n : ℕ) : Type 0 where
@@ -76,157 +70,147 @@ split_and : (a b : Bool) → (a && b) ≡ true → (a ≡ true) × (b ≡ true)
 split_and true b e = (refl, e)
 split_and false b e = absurd (false_true e)
 
--- the tests, as facts, and back
-test_ne : (a b : ℕ) → not (eqb a b) ≡ true → a ≢ b
-test_ne a b e = eqb-false a b (not-true _ e)
-
-ne_test : (a b : ℕ) → a ≢ b → not (eqb a b) ≡ true
-ne_test a b n = rw (ne_eqb a b n)
-
-pends_some : (q : Queue) → pends q ≡ true → 0 < q.count
-pends_some q e = let n = test_ne q.count 0 e in omega arith
-
-some_pends : (q : Queue) → 0 < q.count → pends q ≡ true
-some_pends q l = ne_test q.count 0 (λ z. omega arith)
-
--- the reasons against an action that is about cell c, of which so much is held
-module _ (s : State) (t c : ℕ) where
-  abbrev held : Held
-  held = record { dirty = dirty_of s t; owner = owner_of s c; sharing = sharing_of s c }
-
-  abbrev q : Queue
-  q = queue_of s t
-
-  others_own : others held t ≡ true → (owner_of s c ≢ 0) × (owner_of s c ≢ t + 1)
-  others_own e = let b = split_and _ _ e in (test_ne _ _ b.0, test_ne _ _ b.1)
-
-  own_others : owner_of s c ≢ 0 → owner_of s c ≢ t + 1 → others held t ≡ true
-  own_others a b = rw (ne_eqb _ _ a, ne_eqb _ _ b)
-
-  read_judges : sharing_of s c ≤ 1 → Judges (Against s t (read c)) (load_breaks t held)
-  unfolding load_breaks
-  read_judges l =
-      two _ _ 30 31 (omega arith) (omega arith)
-      (λ e. let b = split_and _ _ e in load_local (test_ne _ _ b.0) (eqb-true _ _ b.1))
-      (λ e. let b = split_and _ _ e in let d = split_and _ _ b.1 in let n = test_ne (sharing_of s c) 0 d.0 in load_dirty (test_ne _ _ b.0) (omega arith) (test_ne _ _ d.1))
-      cases
-    where
-      cases : (m : ℕ) → Against s t (read c) m → Either (not (owns held t) && is_local held) (not (owns held t) && (not (is_local held) && is_dirty held)) 30 31 m
-      cases m (load_local o l) = first (rw (ne_eqb _ _ o, l)) refl
-      cases m (load_dirty o l d) = second (rw (ne_eqb _ _ o, l, ne_eqb _ _ d)) refl
-
-  store_judges : (x : ℤ) → Judges (Against s t (store c x)) (judged_of (guard (leb s.depth q.count) 22 0) (store_breaks t held))
-  unfolding store_breaks
-  store_judges x =
-      rw (judged_guard (leb s.depth q.count) 22 (guard (others held t) 32 0) (omega arith))
-      (two _ _ 22 32 (omega arith) (omega arith) (λ e. buffer_full (leb-true _ _ e)) (λ e. let o = others_own e in store_others o.0 o.1) cases)
-    where
-      cases : (m : ℕ) → Against s t (store c x) m → Either (leb s.depth q.count) (others held t) 22 32 m
-      cases m (buffer_full h) = first (le-leb _ _ h) refl
-      cases m (store_others a b) = second (own_others a b) refl
-
-  swap_judges : (old x : ℤ) → Judges (Against s t (swap c old x)) (judged_of (guard (pends q) 21 0) (store_breaks t held))
-  unfolding store_breaks
-  swap_judges old x =
-      rw (judged_guard (pends q) 21 (guard (others held t) 32 0) (omega arith))
-      (two _ _ 21 32 (omega arith) (omega arith) (λ e. swap_waits (pends_some q e)) (λ e. let o = others_own e in swap_others o.0 o.1) cases)
-    where
-      cases : (m : ℕ) → Against s t (swap c old x) m → Either (pends q) (others held t) 21 32 m
-      cases m (swap_waits h) = first (some_pends q h) refl
-      cases m (swap_others a b) = second (own_others a b) refl
-
-  acquire_judges : (mark : ℕ) → Judges (Against s t (acquire c mark)) (acquire_breaks t held (elsewhere_of s.queues s.threads t c))
-  unfolding acquire_breaks
-  acquire_judges mark = two _ _ 33 34 (omega arith) (omega arith) (λ e. acquire_owned (test_ne _ _ e)) (λ e. acquire_pending ((elsewhere_pending s t c).0 e)) cases
-    where
-      cases : (m : ℕ) → Against s t (acquire c mark) m → Either (owned held) (elsewhere_of s.queues s.threads t c) 33 34 m
-      cases m (acquire_owned h) = first (ne_test _ _ h) refl
-      cases m (acquire_pending p) = second ((elsewhere_pending s t c).1 p) refl
-
-  release_judges : Judges (Against s t (release c)) (release_breaks t held q)
-  unfolding release_breaks
-  release_judges = two _ _ 35 36 (omega arith) (omega arith) (λ e. release_not_own (test_ne _ _ e)) (λ e. release_waits (pends_some q e)) cases
-    where
-      cases : (m : ℕ) → Against s t (release c) m → Either (not (owns held t)) (pends q) 35 36 m
-      cases m (release_not_own h) = first (ne_test _ _ h) refl
-      cases m (release_waits h) = second (some_pends q h) refl
-
--- and against one that is about none
 module _ (s : State) (t : ℕ) where
-  fence_judges : Judges (Against s t fence) (judged_of (guard (pends (queue_of s t)) 21 0) 0)
-  fence_judges = rw (judged_guard (pends (queue_of s t)) 21 0 (omega arith)) (one _ 21 (omega arith) (λ e. fence_waits (pends_some (queue_of s t) e)) cases)
+  abbrev pub judged_as : Action → ℕ
+  judged_as a = judged_of (blocked_of s.depth (queue_of s t) a) (broken_of t (next_held s t) (queue_of s t) (next_elsewhere s t) a)
+
+  read_cases : {c : ℕ} (m : ℕ) → Against s t (read c) m → Either (not (owns (next_held s t) t) && is_local (next_held s t)) (not (owns (next_held s t) t) && (not (is_local (next_held s t)) && is_dirty (next_held s t))) 30 31 m
+  read_cases m (load_local o l) = first (rw (o, l)) refl
+  read_cases m (load_dirty o l d) = second (rw (o, l, d)) refl
+
+  store_cases : {c : ℕ} {x : ℤ} (m : ℕ) → Against s t (store c x) m → Either (leb s.depth (queue_of s t).count) (others (next_held s t) t) 22 32 m
+  store_cases m (buffer_full h) = first h refl
+  store_cases m (store_others h) = second h refl
+
+  fence_cases : (m : ℕ) → Against s t fence m → (pends (queue_of s t) ≡ true) × (m ≡ 21)
+  fence_cases m (fence_waits h) = (h, refl)
+
+  swap_cases : {c : ℕ} {old x : ℤ} (m : ℕ) → Against s t (swap c old x) m → Either (pends (queue_of s t)) (others (next_held s t) t) 21 32 m
+  swap_cases m (swap_waits h) = first h refl
+  swap_cases m (swap_others h) = second h refl
+
+  acquire_cases : {c mark : ℕ} (m : ℕ) → Against s t (acquire c mark) m → Either (owned (next_held s t)) (next_elsewhere s t) 33 34 m
+  acquire_cases m (acquire_owned h) = first h refl
+  acquire_cases m (acquire_pending h) = second h refl
+
+  release_cases : {c : ℕ} (m : ℕ) → Against s t (release c) m → Either (not (owns (next_held s t) t)) (pends (queue_of s t)) 35 36 m
+  release_cases m (release_others h) = first (rw h) refl
+  release_cases m (release_waits h) = second h refl
+
+  silent_cases : {n : ℕ} {x : ℤ} (m : ℕ) → Against s t (silent n x) m → ⊥
+  silent_cases m = elim [ ]
+
+  end_cases : (m : ℕ) → Against s t end m → m ≡ 20
+  end_cases m at_end = refl
+
+  judges : (a : Action) → Judges (Against s t a) (judged_as a)
+  unfolding blocked_of broken_of load_breaks store_breaks acquire_breaks release_breaks
+  judges (read c) =
+      two _ _ 30 31 (omega arith) (omega arith)
+      (λ e. let b = split_and _ _ e in load_local (not-true _ b.0) b.1) (λ e. let b = split_and _ _ e in let d = split_and _ _ b.1 in load_dirty (not-true _ b.0) (not-true _ d.0) d.1) read_cases
+  judges (store c x) = rw (judged_guard (leb s.depth (queue_of s t).count) 22 (guard (others (next_held s t) t) 32 0) (omega arith)) (two _ _ 22 32 (omega arith) (omega arith) buffer_full store_others store_cases)
+  judges fence = rw (judged_guard (pends (queue_of s t)) 21 0 (omega arith)) (one _ 21 (omega arith) fence_waits fence_cases)
+  judges (swap c old x) = rw (judged_guard (pends (queue_of s t)) 21 (guard (others (next_held s t) t) 32 0) (omega arith)) (two _ _ 21 32 (omega arith) (omega arith) swap_waits swap_others swap_cases)
+  judges (acquire c mark) = two _ _ 33 34 (omega arith) (omega arith) acquire_owned acquire_pending acquire_cases
+  judges (release c) = two _ _ 35 36 (omega arith) (omega arith) (λ e. release_others (not-true _ e)) release_waits release_cases
+  judges (silent n x) = never silent_cases
+  judges end = record { stands = λ z. at_end; smallest = λ m r. (λ z. omega arith, let e = end_cases m r in omega arith) }
+
+-- the number of a step is what is judged
+module _ (s : State) where
+  unless_number : (n : ℕ) (o : Outcome) → (unless n s o).number ≡ judged_of n o.number
+  unfolding unless
+  unless_number zero o = refl
+  unless_number (suc n) o = rw (ne_eqb (suc n) 0 (λ z. omega arith))
+
+  judged_zero : (n : ℕ) → judged_of n 0 ≡ n
+  judged_zero zero = refl
+  judged_zero (suc n) = rw (ne_eqb (suc n) 0 (λ z. omega arith))
+
+  machine_number : (t : ℕ) → (take_step s t).number ≡ blocked_of s.depth (queue_of s t) (next_of s t)
+  unfolding take_step
+  machine_number t = unless_number _ _ ∙ judged_zero _
+
+  pub take_number : (t : ℕ) → (checked_take s t).number ≡ judged_as s t (next_of s t)
+  unfolding checked_take
+  take_number t = unless_number (take_step s t).number _ ∙ rw (machine_number t) (ap (judged_of (blocked_of s.depth (queue_of s t) (next_of s t))) (unless_number (next_broken s t) _ ∙ judged_zero _))
+
+  drain_number : (t : ℕ) → (drain_step s t).number ≡ guard (eqb (queue_of s t).count 0) 23 0
+  unfolding drain_step
+  drain_number t = unless_number _ _ ∙ judged_zero _
+
+module _ (s : State) (x : ℕ) where
+  drain_cases : 17 ≤ x → (m : ℕ) → Stops s x m → (eqb (queue_of s (x - 17)).count 0 ≡ true) × (m ≡ 23)
+  drain_cases l m (stops_take h a) = absurd (omega arith)
+  drain_cases l m (stops_drain h e) = (eq-eqb _ _ e, refl)
+
+  take_cases : x < 17 → (m : ℕ) → Stops s x m → Against s (x - 1) (next_of s (x - 1)) m
+  take_cases l m (stops_take h a) = a
+  take_cases l m (stops_drain h e) = absurd (omega arith)
+
+  step_judges : Judges (Stops s x) (checked_of s x).number
+  unfolding checked_of
+  step_judges = go (leb 17 x) refl
     where
-      cases : (m : ℕ) → Against s t fence m → (pends (queue_of s t) ≡ true) × (m ≡ 21)
-      cases m (fence_waits h) = (some_pends (queue_of s t) h, refl)
+      go : (b : Bool) → leb 17 x ≡ b → Judges (Stops s x) (pick b (drain_step s (x - 17)) (checked_take s (x - 1))).number
+      go true h =
+          let l = leb-true _ _ h in
+          rw (drain_number s (x - 17)) (one _ 23 (omega arith) (λ e. stops_drain l (eqb-true _ _ e)) (drain_cases l))
+      go false h =
+          let l = leb-false _ _ h in
+          let j = judges s (x - 1) (next_of s (x - 1)) in
+          rw (take_number s (x - 1)) (record { stands = λ z. stops_take l (j.stands z); smallest = λ m r. j.smallest m (take_cases l m r) })
 
-  silent_judges : (n : ℕ) (x : ℤ) → Judges (Against s t (silent n x)) 0
-  silent_judges n x = never cases
+  -- an item that is stopped is stopped for the smallest reason that stands against it
+  pub stopped_least : ((checked_of s x).number ≡ 0 → ⊥) → Least s x (checked_of s x).number
+  stopped_least n = record { stands = step_judges.stands n; smallest = λ m r. (step_judges.smallest m r).1 }
+
+  -- no item is stopped otherwise
+  pub taken_if_nothing : ((m : ℕ) → Stops s x m → ⊥) → (checked_of s x).number ≡ 0
+  taken_if_nothing h = go (checked_of s x).number refl
     where
-      cases : (m : ℕ) → Against s t (silent n x) m → ⊥
-      cases m = elim [ ]
+      go : (n : ℕ) → (checked_of s x).number ≡ n → n ≡ 0
+      go zero e = refl
+      go (suc n) e = absurd (h _ (step_judges.stands (λ z. omega arith)))
 
-  end_judges : count_of s t ≤ position_of s t → Judges (Against s t end) 20
-  end_judges l = record { stands = λ z. at_end l; smallest = λ m r. (λ z. omega arith, let e = cases m r in omega arith) }
-    where
-      cases : (m : ℕ) → Against s t end m → m ≡ 20
-      cases m (at_end h) = refl
+  pub nothing_if_taken : (checked_of s x).number ≡ 0 → (m : ℕ) → Stops s x m → ⊥
+  nothing_if_taken z m r = (step_judges.smallest m r).0 z
 
--- the next instruction of row t
-module _ {s : State} (g : InRange s) {t : ℕ} (h : t < s.threads) where
-  abbrev here : ℕ
-  here = cell_of (current_of s t)
+-- the two ways that a run goes at its first item
+module _ (s : State) (k x : ℕ) (xs : List ℕ) where
+  abbrev onward : Ran
+  onward = run_of checked_of (checked_of s x).state (suc k) xs
 
-  judges_goes : position_of s t < count_of s t → (a : Action) → About a here (current_of s t).cell → ended_of a ≡ 0 → Judges (Against s t a) (judged_as s t a)
-  unfolding blocked_of broken_of ended_of
-  judges_goes l (read n) e z = rw (held_parts s t (current_of s t), ← e) (read_judges s t n (rw e (g.cell here (current_cell g h l)).sharing))
-  judges_goes l (store n x) e z = rw (held_parts s t (current_of s t), ← e.0) (store_judges s t n x)
-  judges_goes l fence e z = fence_judges s t
-  judges_goes l (swap n old x) e z = rw (held_parts s t (current_of s t), ← e) (swap_judges s t n old x)
-  judges_goes l (acquire n mark) e z = rw (held_parts s t (current_of s t), ← e.0, ← e.1) (acquire_judges s t n mark)
-  judges_goes l (release n) e z = rw (held_parts s t (current_of s t), ← e) (release_judges s t n)
-  judges_goes l (silent n x) e z = silent_judges s t n x
-  judges_goes l end e z = absurd (omega arith)
+  abbrev halted : Ran
+  halted = record { state = s; place = k; number = (checked_of s x).number }
 
-  judges : Judges (Against s t (next_of s t)) (judged_as s t (next_of s t))
-  unfolding blocked_of broken_of
-  judges = at_end_or s t (λ l. judges_goes l (next_of s t) (about g h l) (goes_on g h l)) (λ l. rw (next_end s t l) (end_judges s t l))
+-- an answer 0 means that every item was taken
+pub ran_taken : (s : State) (k : ℕ) (xs : List ℕ) → (run_of checked_of s k xs).number ≡ 0 → Taken s xs (run_of checked_of s k xs).state × ((run_of checked_of s k xs).place ≡ k + length xs)
+unfolding run_of
+ran_taken s k [] e = (none, omega arith)
+ran_taken s k (x ∷ xs) e = go (eqb (checked_of s x).number 0) refl (λ z. ran_taken (checked_of s x).state (suc k) xs z) e
+  where
+    go : (b : Bool) → eqb (checked_of s x).number 0 ≡ b → ((onward s k x xs).number ≡ 0 → Taken (checked_of s x).state xs (onward s k x xs).state × ((onward s k x xs).place ≡ suc k + length xs)) → (pick b (onward s k x xs) (halted s k x xs)).number ≡ 0 → Taken s (x ∷ xs) (pick b (onward s k x xs) (halted s k x xs)).state × ((pick b (onward s k x xs) (halted s k x xs)).place ≡ k + suc (length xs))
+    go true q h e = let r = h e in (more (eqb-true _ _ q) r.0, let p = r.1 in omega arith)
+    go false q h e = absurd (eqb-false _ _ q e)
 
-module _ {s : State} (g : InRange s) where
-  drain_judges : (t : ℕ) → t < s.threads → Judges (Stops s (t + 17)) (checked_of s (t + 17)).number
-  drain_judges t h = rw (item_drain s t, drain_number s t) (one _ 23 (omega arith) (λ e. stops_drain t h refl (eqb-true _ _ e)) cases)
-    where
-      cases : (m : ℕ) → Stops s (t + 17) m → (eqb (queue_of s t).count 0 ≡ true) × (m ≡ 23)
-      cases m (stops_take u l e a) = let k = g.threads in absurd (omega arith)
-      cases m (stops_drain u l e z) = let q : t ≡ u = omega arith in (rw q (eq-eqb _ _ z), refl)
+-- any other number means that the items before the place were taken, and that the item there is stopped for that reason and no smaller one
+pub record Halts (s : State) (k : ℕ) (xs : List ℕ) (r : Ran) : Type 0 where
+  pub after : ℕ
+  pub place : r.place ≡ k + after
+  pub there : after < length xs
+  pub before : Taken s (take after xs) r.state
+  pub least : Least r.state (get_or xs after 0) r.number
 
-  take_judges : (t : ℕ) → t < s.threads → Judges (Stops s (t + 1)) (checked_of s (t + 1)).number
-  take_judges t h =
-      let j = judges g h in
-      let k = g.threads in
-      rw (item_take s t (omega arith), take_number s t) (record { stands = λ z. stops_take t h refl (j.stands z); smallest = λ m r. j.smallest m (cases m r) })
-    where
-      cases : (m : ℕ) → Stops s (t + 1) m → Against s t (next_of s t) m
-      cases m (stops_take u l e a) = let q : t ≡ u = omega arith in rw q a
-      cases m (stops_drain u l e z) = let k = g.threads in absurd (omega arith)
-
-  module _ (x : ℕ) (f : item_fits s.threads x ≡ true) where
-    step_judges : Judges (Stops s x) (checked_of s x).number
-    step_judges = by_kind s.threads g.threads (λ y. Judges (Stops s y) (checked_of s y).number) drain_judges take_judges x f
-
-    -- an item that is stopped is stopped for the smallest reason that stands against it
-    pub stopped_least : ((checked_of s x).number ≡ 0 → ⊥) → Least s x (checked_of s x).number
-    stopped_least n = record { stands = step_judges.stands n; smallest = λ m r. (step_judges.smallest m r).1 }
-
-    -- no item is stopped otherwise
-    pub taken_if_nothing : ((m : ℕ) → Stops s x m → ⊥) → (checked_of s x).number ≡ 0
-    taken_if_nothing h = go (checked_of s x).number refl
-      where
-        go : (n : ℕ) → (checked_of s x).number ≡ n → n ≡ 0
-        go zero e = refl
-        go (suc n) e = absurd (h _ (step_judges.stands (λ z. omega arith)))
-
-    pub nothing_if_taken : (checked_of s x).number ≡ 0 → (m : ℕ) → Stops s x m → ⊥
-    nothing_if_taken z m r = (step_judges.smallest m r).0 z
-
-pub numbers_mean : NumbersMean
-numbers_mean s x g f = record { least = stopped_least g x f; nothing = nothing_if_taken g x f; taken = taken_if_nothing g x f }
+pub ran_halts : (s : State) (k : ℕ) (xs : List ℕ) → ((run_of checked_of s k xs).number ≡ 0 → ⊥) → Halts s k xs (run_of checked_of s k xs)
+unfolding run_of
+ran_halts s k [] n = absurd (n refl)
+ran_halts s k (x ∷ xs) n = go (eqb (checked_of s x).number 0) refl (λ z. ran_halts (checked_of s x).state (suc k) xs z) n
+  where
+    go : (b : Bool) → eqb (checked_of s x).number 0 ≡ b → (((onward s k x xs).number ≡ 0 → ⊥) → Halts (checked_of s x).state (suc k) xs (onward s k x xs)) → ((pick b (onward s k x xs) (halted s k x xs)).number ≡ 0 → ⊥) → Halts s k (x ∷ xs) (pick b (onward s k x xs) (halted s k x xs))
+    go true q h n =
+        let r = h n in
+        let p = r.place in
+        let l = r.there in
+        record { after = suc r.after; place = omega arith; there = omega arith; before = more (eqb-true _ _ q) r.before; least = r.least }
+    go false q h n = record { after = 0; place = omega arith; there = omega arith; before = none; least = stopped_least s x n }

@@ -8,9 +8,8 @@ use lib.ListN.{get_or, drop}
 use lib.Dec.{eqb, leb}
 use lib.IntN.{ℤ, pos}
 use borrow.Author.Tests.{eqb-true, eqb-false}
-use Rattle.state.specs.declared.State.{State}
-use Rattle.state.specs.Pick.{pick}
-use Rattle.fields.specs.Rules.{item_fits}
+use Rattle.reader.specs.declared.state.State.{State}
+use Rattle.reader.specs.Rules.{pick, item_fits}
 use Rattle.machine.specs.declared.outcome.Outcome.{Outcome}
 use Rattle.machine.specs.declared.outcome.Ran.{Ran}
 use Rattle.machine.specs.Run.{refused_of, taken_of, unless, run_of, values_of, Answers}

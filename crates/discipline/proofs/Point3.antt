@@ -1,5 +1,5 @@
 -- Point 3, from the coupling: where every buffer is empty nothing waits, so both machines are alike.
-use Prim.Native.Nat.{ℕ, zero, suc, ◌+◌, ◌*◌, ◌/◌, ◌%◌, ◌<◌, ◌≤◌}
+use Prim.Native.Nat.{ℕ, zero, suc, ◌+◌, ◌-◌, ◌*◌, ◌/◌, ◌%◌, ◌<◌, ◌≤◌}
 use mathlib.Core.Bool.{Bool, true, false}
 use mathlib.Core.Path.{◌≡◌, refl, sym, ◌∙◌, ap, subst, fun_ext}
 use mathlib.Core.List.{List, [], ◌∷◌, ◌++◌, append-nil}
@@ -9,21 +9,20 @@ use lib.Seq.{ext_get_or}
 use lib.Dec.{eqb, ltb}
 use lib.IntN.{ℤ, pos}
 use borrow.Author.Tests.{lt-ltb, ltb-true}
-use Rattle.state.specs.declared.State.{State}
-use Rattle.state.specs.Limits.{THREADS, REGISTERS}
-use Rattle.state.specs.State.{queue_of, register_of, position_of}
-use Rattle.state.specs.Queue.{pending}
-use Rattle.state.specs.Pick.{pick}
-use Rattle.fields.specs.Rules.{item_fits}
+use Rattle.reader.specs.declared.state.State.{State}
+use Rattle.reader.specs.Limits.{THREADS, REGISTERS}
+use Rattle.reader.specs.State.{queue_of, register_of, position_of}
+use Rattle.reader.specs.Queue.{pending}
+use Rattle.reader.specs.Rules.{pick, item_fits}
 use Rattle.machine.specs.declared.outcome.Outcome.{Outcome}
 use Rattle.machine.specs.Run.{run_of, values_of}
-use Rattle.machine.specs.Plain.{plain_of, Threads}
+use Rattle.machine.specs.Plain.{plain_of}
 use Rattle.machine.proofs.Take.{by_kind}
 use Rattle.discipline.specs.Run.{Runnable, Items}
 use Rattle.discipline.specs.Step.{checked_of}
 use Rattle.discipline.specs.Order.{row_of, plan_of, counts_of, no_counts, order_from, order_of}
 use Rattle.discipline.specs.OneMemory.{carries, times_of, path_of, reads_of, alone_of, Alike, Emptied}
-use Rattle.discipline.proofs.Halts.{ran_taken}
+use Rattle.discipline.proofs.Meaning.{ran_taken}
 use Rattle.discipline.proofs.Coupling.{Inv, start, alike_mem, alike_loc}
 use Rattle.discipline.proofs.View.{Log, Local, program, registers_of, local_of, view, plain_view}
 use Rattle.discipline.proofs.Logged.{Named, Below, logs_of, last_of, run_last, log_run, none_over}
@@ -43,49 +42,22 @@ module _ (threads : ℕ) (few : threads ≤ THREADS) where
   named [] f = tt
   named (x ∷ xs) f = (item_named x f.0, named xs f.1)
 
-  -- an order names threads, and nothing else
-  threads_more : {x : ℕ} {xs : List ℕ} → 1 ≤ x → x ≤ threads → Threads threads xs → Threads threads (x ∷ xs)
-  threads_more {x} {xs} l m r = record { least = least; most = most }
-    where
-      least : (k : ℕ) → k < suc (length xs) → 1 ≤ get_or (x ∷ xs) k 0
-      least zero h = l
-      least (suc k) h = r.least k (omega arith)
+  -- an order names rows, and nothing but instructions
+  steps_name : (n t : ℕ) (xs : List ℕ) → t < threads → Below xs × Named xs → Below (replicate n (t + 1) ++ xs) × Named (replicate n (t + 1) ++ xs)
+  steps_name zero t xs h r = r
+  steps_name (suc n) t xs h r = let q = steps_name n t xs h r in ((omega arith, q.0), (omega arith, q.1))
 
-      most : (k : ℕ) → k < suc (length xs) → get_or (x ∷ xs) k 0 ≤ threads
-      most zero h = m
-      most (suc k) h = r.most k (omega arith)
-
-  no_threads : Threads threads []
-  no_threads = record { least = λ k h. absurd (omega arith); most = λ k h. absurd (omega arith) }
-
-  steps_threads : (n t : ℕ) (xs : List ℕ) → t < threads → Threads threads xs → Threads threads (replicate n (t + 1) ++ xs)
-  steps_threads zero t xs h r = r
-  steps_threads (suc n) t xs h r = threads_more (omega arith) (omega arith) (steps_threads n t xs h r)
-
-  order_threads : (s : State) (k : List (List ℕ)) (xs : List ℕ) → Fitting threads xs → Threads threads (order_from s k xs)
+  order_names : (s : State) (k : List (List ℕ)) (xs : List ℕ) → Fitting threads xs → Below (order_from s k xs) × Named (order_from s k xs)
   unfolding order_from
-  order_threads s k [] f = no_threads
-  order_threads s k (x ∷ xs) f =
+  order_names s k [] f = (tt, tt)
+  order_names s k (x ∷ xs) f =
       let p = plan_of s x (counts_of k (row_of x)) in
       let m = (checked_of s x).state in
-      by (eqb (checked_of s x).number 0) (order_from m (set k (row_of x) p.counts) xs) (order_threads m (set k (row_of x) p.counts) xs f.1)
+      by (eqb (checked_of s x).number 0) (order_from m (set k (row_of x) p.counts) xs) (order_names m (set k (row_of x) p.counts) xs f.1)
     where
-      by : (b : Bool) (ys : List ℕ) → Threads threads ys → Threads threads (pick b (replicate (plan_of s x (counts_of k (row_of x))).steps (row_of x + 1) ++ ys) [])
-      by true ys r = steps_threads (plan_of s x (counts_of k (row_of x))).steps (row_of x) ys (item_row threads few x f.0) r
-      by false ys r = no_threads
-
-  -- so each of its items is an instruction of a row
-  threads_name : (xs : List ℕ) → Threads threads xs → Below xs × Named xs
-  threads_name [] r = (tt, tt)
-  threads_name (x ∷ xs) r =
-      let l = r.least 0 (omega arith) in
-      let m = r.most 0 (omega arith) in
-      let q = threads_name xs (record { least = λ k h. r.least (suc k) (omega arith); most = λ k h. r.most (suc k) (omega arith) }) in
-      ((omega arith, q.0), (l, q.1))
-
--- 0 names no thread, so an order that holds it is none, though a step of 0 would be one of the first row
-pub zero_no_thread : {s m : State} {xs : List ℕ} {vs : List ℤ} {order : List ℕ} → Alike s xs vs m (0 ∷ order) → ⊥
-zero_no_thread a = let l = a.threads.least 0 (omega arith) in omega arith
+      by : (b : Bool) (ys : List ℕ) → Below ys × Named ys → Below (pick b (replicate (plan_of s x (counts_of k (row_of x))).steps (row_of x + 1) ++ ys) []) × Named (pick b (replicate (plan_of s x (counts_of k (row_of x))).steps (row_of x + 1) ++ ys) [])
+      by true ys r = steps_name (plan_of s x (counts_of k (row_of x))).steps (row_of x) ys (item_row threads few x f.0) r
+      by false ys r = (tt, tt)
 
 -- a path has as many positions as its row had items
 path_times : (step : State → ℕ → Outcome) (t : ℕ) (s : State) (xs : List ℕ) → length (path_of step t s xs) ≡ times_of t xs
@@ -147,11 +119,8 @@ module _ {s : State} (g : Runnable s) (xs : List ℕ) (f : Items s.threads xs) (
   fits : Fitting s.threads xs
   fits = fitting s.threads xs f
 
-  threads : Threads s.threads order
-  threads = order_threads s.threads g.in_range.threads s no_counts xs fits
-
   names : Below order × Named order
-  names = threads_name s.threads g.in_range.threads order threads
+  names = order_names s.threads g.in_range.threads s no_counts xs fits
 
   begun : Inv (program s.code s.counts) (view s no_logs) (counts_of no_counts) (plain_view s no_logs)
   begun = subst (λ (k : ℕ → List ℕ). Inv (program s.code s.counts) (view s no_logs) k (plain_view s no_logs)) (fun_ext (λ i. sym (no_counts_lem i THREADS))) (start (program s.code s.counts) (view s no_logs) (none_pending s a no_logs))
@@ -187,7 +156,6 @@ module _ {s : State} (g : Runnable s) (xs : List ℕ) (f : Items s.threads xs) (
       let q = both.alone_keeps.runnable in
       let p = ended_runnable in
       record {
-        threads = threads;
         each = λ t h. sym (path_times plain_of t s order) ∙ ap length (same_path t h) ∙ path_times checked_of t s xs;
         taken = taken;
         in_order = same_path;

@@ -6,15 +6,14 @@ use mathlib.Core.List.{List, [], ◌∷◌, ◌++◌}
 use native.Mathlib.Omega.{arith}
 use lib.ListN.{length, set, length-set, replicate}
 use borrow.Author.Tests.{le-leb, lt-leb, eq-eqb}
-use Rattle.state.specs.declared.Instruction.{Instruction}
-use Rattle.state.specs.declared.State.{State}
-use Rattle.state.specs.Limits.{THREADS}
-use Rattle.state.specs.State.{position_of}
-use Rattle.fields.specs.Rules.{item_fits}
+use Rattle.reader.specs.declared.state.Instruction.{Instruction}
+use Rattle.reader.specs.declared.state.State.{State}
+use Rattle.reader.specs.Limits.{THREADS}
+use Rattle.reader.specs.State.{position_of}
+use Rattle.reader.specs.Rules.{item_fits}
 use Rattle.machine.specs.Action.{next_of}
 use Rattle.machine.specs.Plain.{plain_of}
 use Rattle.machine.proofs.Take.{by_kind}
-use Rattle.machine.proofs.About.{about}
 use Rattle.discipline.specs.Table.{is_dirty}
 use Rattle.discipline.specs.Run.{Runnable}
 use Rattle.discipline.specs.Step.{next_marks, checked_of}
@@ -24,7 +23,7 @@ use Rattle.discipline.proofs.Maps.{upd, set_upd}
 use Rattle.discipline.proofs.Abstract.{Act, Plain, dirtied, plan}
 use Rattle.discipline.proofs.Coupling.{Inv, block, sim_take, sim_drain}
 use Rattle.discipline.proofs.View.{Log, Local, noted, program, view, plain_view}
-use Rattle.discipline.proofs.Taking.{program_next, plan_same, instruction_takes, drain_drains}
+use Rattle.discipline.proofs.Taking.{about, program_next, plan_same, instruction_takes, drain_drains}
 use Rattle.discipline.proofs.Logged.{logs_after, logs_of, last_of, last_append, logs_append}
 use Rattle.discipline.proofs.Stepping.{steps_block}
 use Rattle.discipline.proofs.Keeps.{Keeps, keeps_same, keeps_on, taken_goes, checked_keeps}
@@ -49,38 +48,38 @@ module _ {s : State} (g : Runnable s) (logs : ℕ → Log) (k : List (List ℕ))
   below : t < length k
   below = let n = g.in_range.threads in omega arith
 
-  drain_item : (checked_of s (t + 17)).number ≡ 0 → After s.code s.counts s logs k o (t + 17)
+  drain_item : (checked_of s (17 + t)).number ≡ 0 → After s.code s.counts s logs k o (17 + t)
   unfolding plan_of
   drain_item z =
-      let e : t + 17 - 17 ≡ t = omega arith in
-      let b : 17 ≤ t + 17 = omega arith in
-      rw (le-leb 17 (t + 17) b, e)
-      (subst (λ (f : ℕ → List ℕ). Inv (program s.code s.counts) (view (checked_of s (t + 17)).state logs) f (block (program s.code s.counts) (drains (counts_of k t)).steps t o))
+      let e : 17 + t - 17 ≡ t = omega arith in
+      let b : 17 ≤ 17 + t = omega arith in
+      rw (le-leb 17 (17 + t) b, e)
+      (subst (λ (f : ℕ → List ℕ). Inv (program s.code s.counts) (view (checked_of s (17 + t)).state logs) f (block (program s.code s.counts) (drains (counts_of k t)).steps t o))
       (sym (set_upd k t (drains (counts_of k t)).counts [] below))
       (sim_drain (program s.code s.counts) (view s logs) (counts_of k) o t v (drain_drains g h logs z)))
 
-  take_item : (checked_of s (t + 1)).number ≡ 0 → After s.code s.counts s logs k o (t + 1)
+  take_item : (checked_of s (1 + t)).number ≡ 0 → After s.code s.counts s logs k o (1 + t)
   unfolding plan_of
   take_item z =
       let n = g.in_range.threads in
-      let e : t + 1 - 1 ≡ t = omega arith in
-      let b : t + 1 < 17 = omega arith in
+      let e : 1 + t - 1 ≡ t = omega arith in
+      let b : 1 + t < 17 = omega arith in
       let l = taken_goes s t (omega arith) z in
       let p = plan_by (next_of s t) (is_dirty (next_marks s t)) (counts_of k t) in
       let q = ap (λ (a : Act Local). plan a (λ n. dirtied (view s logs) t n ((view s logs).threads t).dirty) (counts_of k t)) (program_next g h l (logs t)) ∙ plan_same g h l logs (next_of s t) (about g.in_range h l) (counts_of k t) in
-      let w = view (checked_of s (t + 1)).state (upd logs t (noted (logs t) (position_of s t) (next_of s t) (checked_of s (t + 1)).value)) in
-      rw (lt-leb 17 (t + 1) b, e, eq-eqb (checked_of s (t + 1)).number 0 z)
+      let w = view (checked_of s (1 + t)).state (upd logs t (noted (logs t) (position_of s t) (next_of s t) (checked_of s (1 + t)).value)) in
+      rw (lt-leb 17 (1 + t) b, e, eq-eqb (checked_of s (1 + t)).number 0 z)
       (subst (λ (f : ℕ → List ℕ). Inv (program s.code s.counts) w f (block (program s.code s.counts) p.steps t o))
       (sym (set_upd k t p.counts [] below))
       (subst (λ (y : Plan). Inv (program s.code s.counts) w (upd (counts_of k) t y.counts) (block (program s.code s.counts) y.steps t o)) q
       (sim_take (program s.code s.counts) (view s logs) (counts_of k) o t v (instruction_takes g h l logs z))))
 
 -- the row of an item
-row_drain : (t : ℕ) → row_of (t + 17) ≡ t
-row_drain t = let b : 17 ≤ t + 17 = omega arith in rw (le-leb 17 (t + 17) b) (omega arith)
+row_drain : (t : ℕ) → row_of (17 + t) ≡ t
+row_drain t = let b : 17 ≤ 17 + t = omega arith in rw (le-leb 17 (17 + t) b) (omega arith)
 
-row_take : (t : ℕ) → t < 16 → row_of (t + 1) ≡ t
-row_take t h = let b : t + 1 < 17 = omega arith in rw (lt-leb 17 (t + 1) b) (omega arith)
+row_take : (t : ℕ) → t < 16 → row_of (1 + t) ≡ t
+row_take t h = let b : 1 + t < 17 = omega arith in rw (lt-leb 17 (1 + t) b) (omega arith)
 
 -- one item, whichever it is
 module _ {s : State} (g : Runnable s) (logs : ℕ → Log) (k : List (List ℕ)) (lk : length k ≡ THREADS) (o : Plain Local) (v : Inv (program s.code s.counts) (view s logs) (counts_of k) o) where

@@ -7,10 +7,10 @@ use native.Mathlib.Omega.{arith}
 use lib.ListN.{get_or}
 use lib.Dec.{eqb}
 use borrow.Author.Tests.{eq-eqb, ne_eqb}
-use Rattle.state.specs.declared.Pending.{Pending}
-use Rattle.state.specs.declared.Queue.{Queue}
-use Rattle.state.specs.State.{no_pending, outside_queue}
-use Rattle.state.specs.Pick.{pick}
+use Rattle.reader.specs.declared.state.Pending.{Pending}
+use Rattle.reader.specs.declared.state.Queue.{Queue}
+use Rattle.reader.specs.State.{no_pending, outside_queue}
+use Rattle.reader.specs.Rules.{pick}
 use Rattle.discipline.specs.Elsewhere.{holds_of, holds, elsewhere_of}
 
 back : {n : ℕ} → 0 < n → n ≡ suc (n - 1)

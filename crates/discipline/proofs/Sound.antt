@@ -4,10 +4,10 @@ use mathlib.Core.Path.{◌≡◌, refl}
 use native.Mathlib.Omega.{arith}
 use native.Mathlib.Decide.{ℕ_discrete}
 use lib.ListN.{length-set}
-use Rattle.state.specs.declared.Instruction.{Instruction}
-use Rattle.state.specs.declared.State.{State}
-use Rattle.state.specs.State.{queue_of, position_of, count_of}
-use Rattle.state.specs.Drain.{drained_of}
+use Rattle.reader.specs.declared.state.Instruction.{Instruction}
+use Rattle.reader.specs.declared.state.State.{State}
+use Rattle.reader.specs.State.{queue_of, position_of, count_of}
+use Rattle.reader.specs.Drain.{drained_of}
 use Rattle.reader.specs.Range.{CellIn}
 use Rattle.machine.specs.Action.{Action, action_of, current_of, next_of}
 use Rattle.machine.specs.Effect.{cell_of, blocked_of, took_of}
@@ -17,7 +17,8 @@ use Rattle.machine.proofs.Take.{row_below, row_few, current_in, current_cell}
 use Rattle.machine.proofs.Kept.{in_drained}
 use Rattle.machine.proofs.InRange.{took_in, next_goes}
 use Rattle.machine.proofs.Shape.{shaped_drained, shaped_took}
-use Rattle.discipline.specs.Table.{Held, held_of, acquired, released, flagged, holding_of}
+use Rattle.discipline.specs.declared.table.Held.{Held}
+use Rattle.discipline.specs.Table.{held_of, acquired, released, flagged, holding_of}
 use Rattle.discipline.specs.Marks.{stored_of, marks_of}
 use Rattle.discipline.specs.Run.{Runnable}
 use Rattle.discipline.specs.Step.{next_held, next_marks}

@@ -7,10 +7,10 @@ use lib.ListN.{replicate}
 use lib.Dec.{eqb}
 use lib.IntN.{ℤ}
 use borrow.Author.Tests.{lt-leb, le-ltb}
-use Rattle.state.specs.declared.Instruction.{Instruction}
-use Rattle.state.specs.declared.State.{State}
-use Rattle.state.specs.State.{no_queue, position_of, count_of, memory_of}
-use Rattle.state.specs.Pick.{pick}
+use Rattle.reader.specs.declared.state.Instruction.{Instruction}
+use Rattle.reader.specs.declared.state.State.{State}
+use Rattle.reader.specs.State.{no_queue, position_of, count_of, memory_of}
+use Rattle.reader.specs.Rules.{pick}
 use Rattle.reader.specs.Range.{Shaped}
 use Rattle.machine.specs.Integer.{eq_z}
 use Rattle.machine.specs.declared.effect.Effect.{Effect}
@@ -21,7 +21,6 @@ use Rattle.machine.specs.Run.{taken_of}
 use Rattle.machine.specs.Plain.{at_once, ended_of, plain_effect, plain_step, plain_of}
 use Rattle.machine.proofs.Take.{row_below, current_in, current_cell, unless_zero}
 use Rattle.machine.proofs.InRange.{at_end_or, plain_step_in, unless_all}
-use Rattle.machine.proofs.About.{About, about}
 use Rattle.machine.proofs.PlainTake.{goes_on, plain_end}
 use Rattle.machine.proofs.Shape.{shaped_took}
 use Rattle.discipline.specs.Run.{Runnable}
@@ -31,7 +30,7 @@ use Rattle.discipline.proofs.Waiting.{one}
 use Rattle.discipline.proofs.Coupling.{block, block_zero, block_suc}
 use Rattle.discipline.proofs.View.{Log, Local, noted, overrun, went, acted, program, registers_of, local_of, memory_map, plain_view}
 use Rattle.discipline.proofs.Viewed.{memory_took, local_took, local_other}
-use Rattle.discipline.proofs.Taking.{same_memory, moved_on, program_next}
+use Rattle.discipline.proofs.Taking.{About, about, same_memory, moved_on, program_next}
 use Rattle.discipline.proofs.Keeps.{Keeps, keeps_same, keeps_on}
 use Rattle.discipline.proofs.Logged.{logs_after, logs_of, last_of}
 

@@ -1,35 +1,39 @@
 -- The machine with buffers under the discipline, as the definitions have it, takes what the machine of Abstract takes. The rules come in here, as the
 -- reasons that do not stand against an item that is taken.
-use Prim.Native.Nat.{ℕ, ◌+◌, ◌<◌, ◌≤◌}
+use Prim.Native.Nat.{ℕ, suc, ◌+◌, ◌-◌, ◌<◌, ◌≤◌}
 use mathlib.Core.Bool.{Bool, true, false, not}
 use mathlib.Core.Logic.{◌≢◌}
 use mathlib.Core.Path.{◌≡◌, refl, sym, ◌∙◌, ap, subst}
 use mathlib.Core.List.{List, [], ◌∷◌, ◌++◌}
 use native.Mathlib.Omega.{arith}
+use native.Mathlib.Numerals.{add-one}
 use lib.ListN.{length, drop}
 use lib.Dec.{eqb, ltb}
 use lib.IntN.{ℤ, pos}
 use borrow.Author.Tests.{lt-ltb, ltb-true}
-use Rattle.state.specs.declared.Pending.{Pending}
-use Rattle.state.specs.declared.Queue.{Queue}
-use Rattle.state.specs.declared.Instruction.{Instruction}
-use Rattle.state.specs.declared.State.{State}
-use Rattle.state.specs.Limits.{REGISTERS}
-use Rattle.state.specs.State.{queue_of, position_of, count_of, register_of, memory_of, owner_of, sharing_of}
-use Rattle.state.specs.Queue.{pending, pushed_of}
-use Rattle.state.specs.Drain.{oldest_of}
-use Rattle.state.specs.Pick.{pick}
-use Rattle.state.proofs.Row.{pending_pushed}
+use Rattle.reader.specs.declared.state.Pending.{Pending}
+use Rattle.reader.specs.declared.state.Queue.{Queue}
+use Rattle.reader.specs.declared.state.Instruction.{Instruction}
+use Rattle.reader.specs.declared.state.State.{State}
+use Rattle.reader.specs.Limits.{REGISTERS}
+use Rattle.reader.specs.State.{queue_of, position_of, count_of, register_of, memory_of, owner_of, sharing_of}
+use Rattle.reader.specs.Queue.{pending, pushed_of}
+use Rattle.reader.specs.Drain.{oldest_of}
+use Rattle.reader.specs.Rules.{pick, BRANCH}
+use Rattle.reader.specs.Range.{InRange}
+use Rattle.reader.proofs.Row.{pending_pushed}
 use Rattle.machine.specs.declared.effect.Effect.{Effect}
 use Rattle.machine.specs.Integer.{eq_z}
 use Rattle.machine.specs.Buffer.{forwarded, after_of}
-use Rattle.machine.specs.Action.{Action, read, store, fence, swap, acquire, release, silent, end, LOCAL, current_of, next_of}
+use Rattle.machine.specs.Action.{Action, read, store, fence, swap, acquire, release, silent, end, LOCAL, action_of, current_of, next_of}
 use Rattle.machine.specs.Effect.{cell_of, seen_of, blocked_of, effect_of, took_of}
 use Rattle.machine.specs.Run.{taken_of}
 use Rattle.machine.specs.Step.{next_effect}
+use Rattle.machine.proofs.Ten.{ten}
 use Rattle.machine.proofs.Take.{row_below, row_few, row_drainable, current_in, current_cell}
-use Rattle.machine.proofs.About.{About, about}
-use Rattle.discipline.specs.Table.{Held, held_of, is_dirty, holding_of}
+use Rattle.machine.proofs.InRange.{next_goes}
+use Rattle.discipline.specs.declared.table.Held.{Held}
+use Rattle.discipline.specs.Table.{held_of, is_dirty, holding_of}
 use Rattle.discipline.specs.Marks.{stored_of, marks_of}
 use Rattle.discipline.specs.Run.{Runnable}
 use Rattle.discipline.specs.Step.{next_held, next_elsewhere, next_marks, checked_of}
@@ -42,6 +46,27 @@ use Rattle.discipline.proofs.Abstract.{Table, Machine, thread, enter, with_threa
 use Rattle.discipline.proofs.View.{Log, Local, noted, went, acted, program, registers_of, local_of, memory_map, table_map, view}
 use Rattle.discipline.proofs.Viewed.{view_took, view_drained}
 use Rattle.discipline.proofs.Buffers.{oldest_first, forwarded_drained, nowhere_else}
+
+-- the cell that an action names is its instruction's: c as the machine looks it up, b as the instruction holds it
+abbrev pub About : Action → ℕ → ℕ → Type 0
+About (read n) c b = n ≡ c
+About (store n x) c b = (n ≡ c) × (n ≡ b)
+About fence c b = Unit {0}
+About (swap n old x) c b = n ≡ c
+About (acquire n mark) c b = (n ≡ c) × (n ≡ b)
+About (release n) c b = n ≡ c
+About (silent n x) c b = Unit {0}
+About end c b = Unit {0}
+
+pub about : {s : State} (g : InRange s) {t : ℕ} (h : t < s.threads) (l : position_of s t < count_of s t) → About (next_of s t) (cell_of (current_of s t)) (current_of s t).cell
+unfolding action_of
+about {s} g {t} h l =
+    let i = current_of s t in
+    let k = current_in g h l in
+    rw (next_goes s t l)
+    (ten (λ (n : ℕ) (a : Action). About a (pick (eqb n BRANCH) 0 i.cell) i.cell) _ _ _ _ _ _ _ _ _ _
+    refl (refl, refl) (refl, refl) tt refl (refl, refl) (refl, refl) refl tt tt
+    i.operation k.known k.last)
 
 with_same : (W : Machine Local) (t : ℕ) {l l' : Local} {q q' : List Pending} {d d' : Bool} {T T' : Table} {m m' : ℕ → ℤ} →
     l ≡ l' → q ≡ q' → d ≡ d' → T ≡ T' → m ≡ m' → with_thread W t l q d T m ≡ with_thread W t l' q' d' T' m'
@@ -133,7 +158,7 @@ module _ {s : State} (g : Runnable s) {t : ℕ} (h : t < s.threads) (l : positio
 
     flag_set : (n : ℕ) → n ≡ c → dirtied W t n (W.threads t).dirty ≡ is_dirty (stored_of (next_held s t) t)
     unfolding held_of
-    flag_set n e = sym (flag_stored t (next_held s t) ∙ rw e refl)
+    flag_set n e = sym (flag_stored t (next_held s t) ∙ rw (e, add-one) refl)
 
     nowhere : (n : ℕ) → n ≡ i.cell → next_elsewhere s t ≡ false → (j : ℕ) → j ≢ t → pends (W.threads j).queue n ≡ false
     nowhere n e k j ne = go (ltb j s.threads) refl
@@ -168,7 +193,7 @@ module _ {s : State} (g : Runnable s) {t : ℕ} (h : t < s.threads) (l : positio
     takes (acquire n mark) e y z =
         let f = acquire_free t (next_held s t) (next_elsewhere s t) z in
         subst (Takes W t (acted lo r (acquire n mark)))
-        (with_same W t (moved_on (acquire n mark) (position_of s t + 1)) queue_there refl (ap (λ (k : ℕ). enter (table_map s) k (t + 1) (eqb mark LOCAL)) e.0) (sym same_memory))
+        (with_same W t (moved_on (acquire n mark) (position_of s t + 1)) queue_there refl (ap (λ (k : ℕ). enter (table_map s) k (suc t) (eqb mark LOCAL)) e.0 ∙ ap (λ (o : ℕ). enter (table_map s) c o (eqb mark LOCAL)) (sym (add-one t))) (sym same_memory))
         (t_acquire (rw e.0 f.0) (nowhere n e.1 f.1))
     takes (release n) e y z =
         let f = release_free t (next_held s t) q z in
@@ -191,20 +216,20 @@ module _ {s : State} (g : Runnable s) {t : ℕ} (h : t < s.threads) (l : positio
     plan_same (silent n x) e k = refl
     plan_same end e k = refl
 
-    pub instruction_takes : (checked_of s (t + 1)).number ≡ 0 → Takes W t (program s.code s.counts lo) (view (checked_of s (t + 1)).state (upd logs t (noted (logs t) (position_of s t) (next_of s t) (checked_of s (t + 1)).value)))
+    pub instruction_takes : (checked_of s (1 + t)).number ≡ 0 → Takes W t (program s.code s.counts lo) (view (checked_of s (1 + t)).state (upd logs t (noted (logs t) (position_of s t) (next_of s t) (checked_of s (1 + t)).value)))
     instruction_takes z =
         let u = g.in_range.threads in
         let b = g.in_range.cells in
         let n = neither s t (omega arith) z in
         let k = current_in g.in_range h l in
         let w = current_cell g.in_range h l in
-        let e : checked_of s (t + 1) ≡ taken_of (holding_of (took_of s t i (next_effect s t)) t i (next_marks s t)) (next_effect s t).value = instruction_taken s t (omega arith) z in
+        let e : checked_of s (1 + t) ≡ taken_of (holding_of (took_of s t i (next_effect s t)) t i (next_marks s t)) (next_effect s t).value = instruction_taken s t (omega arith) z in
         let v = view_took g.shaped (row_below g.in_range h) i (next_effect s t) k.register (next_marks s t) h logs (noted (logs t) (position_of s t) (next_of s t) (next_effect s t).value) (omega arith) in
         rw (program_next (logs t), e) (subst (Takes W t (acted lo r (next_of s t))) (sym v) (takes (next_of s t) (about g.in_range h l) n.0 n.1))
 
 -- the oldest pending store drains
 module _ {s : State} (g : Runnable s) {t : ℕ} (h : t < s.threads) (logs : ℕ → Log) where
-  pub drain_drains : (checked_of s (t + 17)).number ≡ 0 → Drains (view s logs) t (view (checked_of s (t + 17)).state logs)
+  pub drain_drains : (checked_of s (17 + t)).number ≡ 0 → Drains (view s logs) t (view (checked_of s (17 + t)).state logs)
   drain_drains z =
       let d = row_drainable g.in_range h (pending_there s t z) in
       let n = g.shaped.entries t d.thread in

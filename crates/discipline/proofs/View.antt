@@ -6,12 +6,12 @@ use mathlib.Core.List.{List, [], ◌∷◌, ◌++◌}
 use lib.ListN.{get_or}
 use lib.Dec.{eqb, ltb}
 use lib.IntN.{ℤ, pos}
-use Rattle.state.specs.declared.Instruction.{Instruction}
-use Rattle.state.specs.declared.State.{State}
-use Rattle.state.specs.Limits.{REGISTERS}
-use Rattle.state.specs.State.{no_instruction, code_place, queue_of, position_of, dirty_of, register_of, memory_of, owner_of, sharing_of}
-use Rattle.state.specs.Queue.{pending}
-use Rattle.state.specs.Pick.{pick}
+use Rattle.reader.specs.declared.state.Instruction.{Instruction}
+use Rattle.reader.specs.declared.state.State.{State}
+use Rattle.reader.specs.Limits.{REGISTERS}
+use Rattle.reader.specs.State.{no_instruction, code_place, queue_of, position_of, dirty_of, register_of, memory_of, owner_of, sharing_of}
+use Rattle.reader.specs.Queue.{pending}
+use Rattle.reader.specs.Rules.{pick}
 use Rattle.machine.specs.Integer.{eq_z}
 use Rattle.machine.specs.Action.{Action, read, store, fence, swap, acquire, release, silent, end, action_of, LOCAL}
 use Rattle.discipline.specs.OneMemory.{reads}

@@ -1,5 +1,5 @@
 -- What a step of the definitions does to the view of a state: to one thread, to memory, to the table.
-use Prim.Native.Nat.{ℕ, ◌<◌, ◌≤◌}
+use Prim.Native.Nat.{ℕ, ◌-◌, ◌<◌, ◌≤◌}
 use mathlib.Core.Bool.{Bool, true, false, not}
 use mathlib.Core.Logic.{◌≢◌}
 use mathlib.Core.Path.{◌≡◌, refl, sym, ◌∙◌, ap, fun_ext}
@@ -10,22 +10,23 @@ use lib.Seq.{get_or-set_other}
 use lib.Dec.{eqb, ltb}
 use lib.IntN.{ℤ, pos}
 use borrow.Author.Tests.{lt-ltb, ltb-true}
-use Rattle.state.specs.declared.Pending.{Pending}
-use Rattle.state.specs.declared.Queue.{Queue}
-use Rattle.state.specs.declared.Instruction.{Instruction}
-use Rattle.state.specs.declared.State.{State}
-use Rattle.state.specs.Limits.{THREADS, CELLS, REGISTERS, DEPTH}
-use Rattle.state.specs.State.{queue_of, dirty_of, register_of, register_place, owner_of, sharing_of}
-use Rattle.state.specs.Queue.{pending}
-use Rattle.state.specs.Drain.{oldest_of, drained_of}
-use Rattle.state.specs.Pick.{pick}
+use Rattle.reader.specs.declared.state.Pending.{Pending}
+use Rattle.reader.specs.declared.state.Queue.{Queue}
+use Rattle.reader.specs.declared.state.Instruction.{Instruction}
+use Rattle.reader.specs.declared.state.State.{State}
+use Rattle.reader.specs.Limits.{THREADS, CELLS, REGISTERS, DEPTH}
+use Rattle.reader.specs.State.{queue_of, dirty_of, register_of, register_place, owner_of, sharing_of}
+use Rattle.reader.specs.Queue.{pending}
+use Rattle.reader.specs.Drain.{oldest_of, drained_of}
+use Rattle.reader.specs.Rules.{pick}
 use Rattle.reader.specs.Range.{Shaped}
 use Rattle.machine.specs.declared.effect.Effect.{Effect}
 use Rattle.machine.specs.Action.{LOCAL}
 use Rattle.machine.specs.Buffer.{after_of}
 use Rattle.machine.specs.Effect.{cell_of, took_of}
 use Rattle.machine.proofs.Frame.{took_queue_other, took_position_other, took_register_other, drained_queue_other, drained_pending, took_queue, took_position, took_register}
-use Rattle.discipline.specs.Table.{Held, holding_of}
+use Rattle.discipline.specs.declared.table.Held.{Held}
+use Rattle.discipline.specs.Table.{holding_of}
 use Rattle.machine.proofs.Shape.{shaped_took}
 use Rattle.discipline.proofs.Holding.{owner_same, owner_other, sharing_same, sharing_other, flag_same, flag_other}
 use Rattle.discipline.proofs.Maps.{upd, upd_same, upd_other, at_or, set_upd}

@@ -3,12 +3,12 @@
 use mathlib.Core.Path.{◌≡◌, refl, sym, ◌∙◌, ap, subst}
 use mathlib.Core.Bool.{Bool, true, false, cond, ◌&&◌, ◌||◌, not, true≢false, false≢true}
 use mathlib.Core.List.{List, [], ◌∷◌, ◌++◌}
-use Prim.Native.Nat.{ℕ, zero, suc, ◌+◌}
-use native.Mathlib.Omega.{arith}
+use Prim.Native.Nat.{ℕ, zero, suc}
+use native.Mathlib.Nat.{suc_inj, suc-ne-zero}
 use lib.Dec.{eqb}
 use lib.IntN.{ℤ}
 use borrow.Author.Tests.{eqb-true, eq-eqb}
-use Rattle.state.specs.declared.Pending.{Pending}
+use Rattle.reader.specs.declared.state.Pending.{Pending}
 use Rattle.discipline.specs.Order.{busy, bump}
 use Rattle.discipline.proofs.Maps.{upd, upd_other}
 use Rattle.discipline.proofs.Abstract.{Act, Table, drained, pends, act, Open}
@@ -19,19 +19,11 @@ calm_busy [] b = refl
 calm_busy (zero ∷ k) b = calm_busy k b
 calm_busy (suc n ∷ k) b = absurd (true≢false b)
 
--- an owner is nobody or a thread, and not both
-pub owner_or : {P : Type 0} (o : ℕ) → (o ≡ 0 → P) → ((j : ℕ) → o ≡ j + 1 → P) → P
-owner_or zero f g = f refl
-owner_or (suc j) f g = g j (omega arith)
+pub suc_open : (i o : ℕ) → o ≡ suc i → Open i o
+suc_open i o e j e' = suc_inj (sym e' ∙ e)
 
-pub not_both : {o : ℕ} (i : ℕ) → o ≡ i + 1 → o ≡ 0 → ⊥
-not_both i e z = omega arith
-
-pub own_open : (i o : ℕ) → o ≡ i + 1 → Open i o
-own_open i o e j e' = omega arith
-
-pub free_open : (i o : ℕ) → o ≡ 0 → Open i o
-free_open i o e j e' = absurd (not_both j e' e)
+pub zero_open : (i o : ℕ) → o ≡ 0 → Open i o
+zero_open i o e j e' = absurd (suc-ne-zero j (sym e' ∙ e))
 
 or_elim : {P : Type 0} (a b : Bool) → a || b ≡ true → (a ≡ true → P) → (b ≡ true → P) → P
 or_elim true b e f g = f refl
@@ -52,7 +44,7 @@ undirtied false false b e = absurd (true≢false e)
 
 -- the cells that thread i can count on: nobody else changes them
 abbrev pub stable : Table → ℕ → ℕ → Bool
-stable T i c = eqb (T.owner c) (i + 1)
+stable T i c = eqb (T.owner c) (suc i)
 
 -- the stores of a queue that are carried out already, and the others
 abbrev pub early : List Pending → List ℕ → List Pending
@@ -120,7 +112,7 @@ module _ {L : Type 0} (next : L → Act L) where
   pub data Fits (T : Table) (i : ℕ) : (ℕ → ℤ) → L → List Pending → List ℕ → L → Type 0 where
     rest : {M : ℕ → ℤ} {l lf : L} {q : List Pending} {k : List ℕ} → Waits (stable T i) M l q k lf → Fits T i M l q k lf
     done : {M : ℕ → ℤ} {l lf : L} {e : Pending} {q : List Pending} {k : List ℕ} →
-        T.owner e.cell ≡ i + 1 → T.mark e.cell ≡ true → Fits T i M l q k lf → Fits T i M l (e ∷ q) (zero ∷ k) lf
+        T.owner e.cell ≡ suc i → T.mark e.cell ≡ true → Fits T i M l q k lf → Fits T i M l (e ∷ q) (zero ∷ k) lf
 
 module _ {L : Type 0} {next : L → Act L} where
   pub waits_keep : {S S' : ℕ → Bool} {M M' : ℕ → ℤ} {l lf : L} {q : List Pending} {k : List ℕ} →
@@ -147,12 +139,12 @@ module _ {L : Type 0} {next : L → Act L} where
 
   module _ {T : Table} {i : ℕ} {M : ℕ → ℤ} where
     pub fits_keep : {T' : Table} {M' : ℕ → ℤ} {l lf : L} {q : List Pending} {k : List ℕ} →
-        ((c : ℕ) → T.owner c ≡ i + 1 → (T'.owner c ≡ i + 1) × (T'.mark c ≡ T.mark c) × (M c ≡ M' c)) → Fits next T i M l q k lf → Fits next T' i M' l q k lf
+        ((c : ℕ) → T.owner c ≡ suc i → (T'.owner c ≡ suc i) × (T'.mark c ≡ T.mark c) × (M c ≡ M' c)) → Fits next T i M l q k lf → Fits next T' i M' l q k lf
     fits_keep h (rest w) = rest (waits_keep (λ c x. eq-eqb _ _ (h c (eqb-true _ _ x)).0) (λ c x. (h c (eqb-true _ _ x)).2) w)
     fits_keep h (done {e} x y f) = done (h e.cell x).0 ((h e.cell x).1 ∙ y) (fits_keep h f)
 
     -- a cell that is not the thread's own local one has no store that is carried out and pends
-    pub fits_skip : {l lf : L} {q : List Pending} {k : List ℕ} (c : ℕ) → (T.owner c ≡ i + 1 → T.mark c ≡ true → ⊥) →
+    pub fits_skip : {l lf : L} {q : List Pending} {k : List ℕ} (c : ℕ) → (T.owner c ≡ suc i → T.mark c ≡ true → ⊥) →
         Fits next T i M l q k lf → (m : ℕ → ℤ) → drained (early q k) m c ≡ m c
     fits_skip c h (rest w) m = ap (λ r. drained r m c) (waits_early w)
     fits_skip c h (done {e} x y f) m = fits_skip c h f (upd m e.cell e.value) ∙ upd_other m e.cell e.value c (λ z. h (rw z x) (rw z y))
@@ -168,7 +160,7 @@ module _ {L : Type 0} {next : L → Act L} where
     calm_move b (rest (link f w)) = absurd (true≢false b)
     calm_move b (done x y f) = done x y (calm_move b f)
 
-    pub calm_push : {l lf : L} {q : List Pending} {k : List ℕ} (x : Pending) → T.owner x.cell ≡ i + 1 → T.mark x.cell ≡ true → busy k ≡ false →
+    pub calm_push : {l lf : L} {q : List Pending} {k : List ℕ} (x : Pending) → T.owner x.cell ≡ suc i → T.mark x.cell ≡ true → busy k ≡ false →
         Fits next T i M l q k lf → Fits next T i M l (q ++ x ∷ []) (k ++ 0 ∷ []) lf
     calm_push x o p b (rest (end e)) = done o p (rest (end e))
     calm_push x o p b (rest (link f w)) = absurd (true≢false b)

@@ -1,9 +1,10 @@
 -- Pending stores in the buffers of other threads.
-use Rattle.std.specs.Prelude.{ℕ, zero, suc, Bool, true, false, ◌&&◌, not, List, get_or, eqb}
-use Rattle.state.specs.declared.Pending.{Pending}
-use Rattle.state.specs.declared.Queue.{Queue}
-use Rattle.state.specs.State.{no_pending, outside_queue}
-use Rattle.state.specs.Pick.{pick}
+use Rattle.std.specs.Prelude.{ℕ, zero, suc, ◌≤◌, ◌<◌, Bool, true, false, ◌&&◌, not, List, get_or, eqb}
+use Rattle.reader.specs.declared.state.Pending.{Pending}
+use Rattle.reader.specs.declared.state.Queue.{Queue}
+use Rattle.reader.specs.State.{no_pending, outside_queue}
+use Rattle.reader.specs.Limits.{THREADS, DEPTH}
+use Rattle.reader.specs.Rules.{pick}
 
 -- whether one of the first n entries is to cell c
 unfoldable pub holds_of : List Pending → ℕ → ℕ → Bool
@@ -17,3 +18,8 @@ holds q c = holds_of q.entries q.count c
 unfoldable pub elsewhere_of : List Queue → ℕ → ℕ → ℕ → Bool
 elsewhere_of qs zero t c = false
 elsewhere_of qs (suc n) t c = pick (not (eqb n t) && holds (get_or qs n outside_queue) c) true (elsewhere_of qs n t c)
+
+-- rows that can be searched
+pub record Rows (qs : List Queue) (threads : ℕ) : Type 0 where
+  pub few_threads : threads ≤ THREADS
+  pub few : (t : ℕ) → t < threads → (get_or qs t outside_queue).count ≤ DEPTH

@@ -5,7 +5,11 @@ pub mod Marks
 pub mod Step
 pub mod Decide
 pub mod Run
+pub mod Check
 pub mod Meaning
 pub mod Fence
 pub mod Order
 pub mod OneMemory
+pub mod Bytes
+pub mod Runs
+pub mod Orders

@@ -1,8 +1,9 @@
 -- What an action does to the dirty flag and to the ownership table.
 use Rattle.std.specs.Prelude.{ℕ, ◌&&◌}
-use Rattle.state.specs.Pick.{pick}
+use Rattle.reader.specs.Rules.{pick}
 use Rattle.machine.specs.Action.{Action, read, store, fence, swap, acquire, release, silent, end}
-use Rattle.discipline.specs.Table.{Held, owns, is_local, acquired, released, flagged}
+use Rattle.discipline.specs.declared.table.Held.{Held}
+use Rattle.discipline.specs.Table.{owns, is_local, acquired, released, flagged}
 
 -- "A STORE to any cell but one that the thread owns and that is local sets the dirty flag."
 unfoldable pub stored_of : Held → ℕ → Held

@@ -1,17 +1,21 @@
 -- Point 3: "Take a well-formed case whose whole schedule is accepted and whose store buffers are empty at the end. Then some order of the
 -- instructions carried out, keeping each thread's own order, makes a machine with one memory and no buffers, started alike, give every thread's
 -- loads and compare-swaps the same values in turn, and end with the same memory, registers and program positions."
-use Rattle.std.specs.Prelude.{ℕ, ◌+◌, ◌<◌, Bool, true, false, ◌&&◌, ◌≡◌, List, [], ◌∷◌, eqb, ℤ}
-use Rattle.state.specs.declared.State.{State}
-use Rattle.state.specs.Limits.{THREADS}
-use Rattle.state.specs.State.{queue_of, position_of}
-use Rattle.state.specs.Pick.{pick}
+use Rattle.std.specs.Prelude.{ℕ, ◌+◌, ◌<◌, Bool, true, false, ◌&&◌, ◌≡◌, List, [], ◌∷◌, take, eqb, ℤ}
+use Rattle.reader.specs.declared.state.State.{State}
+use Rattle.reader.specs.Limits.{THREADS}
+use Rattle.reader.specs.State.{queue_of, position_of}
+use Rattle.reader.specs.Rules.{pick}
+use Rattle.reader.specs.Case.{read_of}
 use Rattle.machine.specs.declared.outcome.Outcome.{Outcome}
 use Rattle.machine.specs.declared.outcome.Ran.{Ran}
 use Rattle.machine.specs.Action.{Action, read, store, fence, swap, acquire, release, silent, end, next_of}
 use Rattle.machine.specs.Run.{run_of, values_of}
-use Rattle.machine.specs.Plain.{plain_of, Threads}
+use Rattle.machine.specs.Plain.{plain_of}
 use Rattle.discipline.specs.Step.{checked_of}
+use Rattle.discipline.specs.declared.check.Answer.{Answer}
+use Rattle.discipline.specs.Check.{schedule_of, ran_of, Checks}
+use Rattle.discipline.specs.Order.{order_of}
 
 -- whether an item lets row t carry out its next instruction: on both machines the item is then the thread's number
 abbrev pub carries : ℕ → ℕ → Bool
@@ -52,9 +56,7 @@ alone_of s order = run_of plain_of s 0 order
 
 -- a run from s by the items xs, which wrote the values vs and ended in m, and the one-memory machine, started alike and following an order
 pub record Alike (s : State) (xs : List ℕ) (vs : List ℤ) (m : State) (order : List ℕ) : Type 0 where
-  -- "some order of the instructions carried out": it names the threads of the state and nothing else, each as often as it carried out an
-  -- instruction, and each of its steps can be made
-  pub threads : Threads s.threads order
+  -- the order names each thread as often as it carried out an instruction, and each of its steps can be made
   pub each : (t : ℕ) → t < THREADS → times_of t order ≡ times_of t xs
   pub taken : (alone_of s order).number ≡ 0
   -- "keeping each thread's own order"
@@ -69,3 +71,32 @@ pub record Alike (s : State) (xs : List ℕ) (vs : List ℤ) (m : State) (order 
 -- "whose store buffers are empty at the end"
 abbrev pub Emptied : State → Type 0
 Emptied s = (t : ℕ) → t < s.threads → (queue_of s t).count ≡ 0
+
+-- a case that was read: where it starts, its items, and where its run ends
+module _ (case : List ℕ) where
+  abbrev pub start_of : State
+  start_of = (read_of case).state
+
+  abbrev pub items_of : List ℕ
+  items_of = schedule_of case (read_of case)
+
+  abbrev pub end_of : State
+  end_of = (ran_of case (read_of case)).state
+
+  -- values and memory: the lent lists as the check left them
+  pub record OneMemory (values memory : List ℤ) (order : List ℕ) : Type 0 where
+    pub alike : Alike start_of items_of values end_of order
+    pub listed : take start_of.cells (alone_of start_of order).state.memory ≡ take start_of.cells memory
+
+-- the theorem: whatever a check of any byte string gave and left in the lent lists, if it gave 0 and the buffers are empty at the end, then the
+-- one-memory machine that follows the order does the same
+abbrev pub PointThree : Type 0
+PointThree =
+    (case : List ℕ) (vs ms vs' ms' : List ℤ) (r : Answer) → Checks case vs ms r vs' ms' → r.number ≡ 0 → Emptied (end_of case) →
+    OneMemory case vs' ms' (order_of (start_of case) (items_of case))
+
+-- the same in the user's words: there is some order
+abbrev pub SomeOrder : Type 0
+SomeOrder =
+    (case : List ℕ) (vs ms vs' ms' : List ℤ) (r : Answer) → Checks case vs ms r vs' ms' → r.number ≡ 0 → Emptied (end_of case) →
+    (order : List ℕ) × OneMemory case vs' ms' order

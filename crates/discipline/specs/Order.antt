@@ -3,9 +3,9 @@
 -- Beside each thread's pending stores stands a count for each. 0: the one-memory machine has carried the store out already. n > 0: when this
 -- store drains, the one-memory machine makes n steps of the thread, the store itself and the n - 1 instructions behind it.
 use Rattle.std.specs.Prelude.{ℕ, zero, suc, ◌+◌, ◌-◌, Bool, true, false, List, [], ◌∷◌, ◌++◌, get_or, set, replicate, eqb, leb}
-use Rattle.state.specs.declared.State.{State}
-use Rattle.state.specs.Limits.{THREADS}
-use Rattle.state.specs.Pick.{pick}
+use Rattle.reader.specs.declared.state.State.{State}
+use Rattle.reader.specs.Limits.{THREADS}
+use Rattle.reader.specs.Rules.{pick}
 use Rattle.machine.specs.Action.{Action, read, store, fence, swap, acquire, release, silent, end, next_of}
 use Rattle.discipline.specs.Table.{is_dirty}
 use Rattle.discipline.specs.Step.{next_marks, checked_of}

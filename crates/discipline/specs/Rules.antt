@@ -1,9 +1,10 @@
 -- The discipline: which rule an action breaks. "a smaller number before a larger one"
 use Rattle.std.specs.Prelude.{ℕ, Bool, ◌&&◌, not}
-use Rattle.state.specs.declared.Queue.{Queue}
+use Rattle.reader.specs.declared.state.Queue.{Queue}
 use Rattle.machine.specs.Action.{Action, read, store, fence, swap, acquire, release, silent, end}
 use Rattle.machine.specs.Effect.{guard, pends}
-use Rattle.discipline.specs.Table.{Held, owned, owns, others, is_local, is_dirty}
+use Rattle.discipline.specs.declared.table.Held.{Held}
+use Rattle.discipline.specs.Table.{owned, owns, others, is_local, is_dirty}
 
 -- an action of row t, of whose cell so much is held
 module _ (t : ℕ) (h : Held) where

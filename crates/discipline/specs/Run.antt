@@ -1,7 +1,7 @@
 -- What a run asks of its start: a state in range whose arrays have their lengths, and items that are right for it.
 use Rattle.std.specs.Prelude.{ℕ, ◌<◌, true, ◌≡◌, List, length, get_or}
-use Rattle.state.specs.declared.State.{State}
-use Rattle.fields.specs.Rules.{item_fits}
+use Rattle.reader.specs.declared.state.State.{State}
+use Rattle.reader.specs.Rules.{item_fits}
 use Rattle.reader.specs.Range.{InRange, Shaped}
 
 pub record Runnable (s : State) : Type 0 where

@@ -1,13 +1,14 @@
 -- The checked step: what the machine does, where neither the machine nor a rule holds it back; and then what the discipline does.
 use Rattle.std.specs.Prelude.{ℕ, ◌-◌, Bool, leb}
-use Rattle.state.specs.declared.State.{State}
-use Rattle.state.specs.State.{queue_of}
-use Rattle.state.specs.Pick.{pick}
+use Rattle.reader.specs.declared.state.State.{State}
+use Rattle.reader.specs.State.{queue_of}
+use Rattle.reader.specs.Rules.{pick}
 use Rattle.machine.specs.declared.outcome.Outcome.{Outcome}
 use Rattle.machine.specs.Action.{current_of, next_of}
 use Rattle.machine.specs.Run.{taken_of, unless}
 use Rattle.machine.specs.Step.{take_step, drain_step}
-use Rattle.discipline.specs.Table.{Held, held_in, holding_of}
+use Rattle.discipline.specs.declared.table.Held.{Held}
+use Rattle.discipline.specs.Table.{held_in, holding_of}
 use Rattle.discipline.specs.Elsewhere.{elsewhere_of}
 use Rattle.discipline.specs.Rules.{broken_of}
 use Rattle.discipline.specs.Marks.{marks_of}

@@ -1,33 +1,15 @@
 -- The ownership table and the dirty flag, as the rules look at them: what is held of the cell that an instruction is about. The rules ask
 -- for nothing else of the table; a step alone puts the lists back.
-use Rattle.std.specs.Prelude.{ℕ, ◌+◌, Bool, ◌&&◌, not, ◌≡◌, List, [], length, get_or, set, eqb}
-use Rattle.state.specs.declared.Instruction.{Instruction}
-use Rattle.state.specs.declared.State.{State}
+use Rattle.std.specs.Prelude.{ℕ, ◌+◌, Bool, ◌&&◌, not, List, get_or, set, eqb}
+use Rattle.reader.specs.declared.state.Instruction.{Instruction}
+use Rattle.reader.specs.declared.state.State.{State}
 use Rattle.machine.specs.Action.{LOCAL, SHARED}
 use Rattle.machine.specs.Effect.{cell_of}
+use Rattle.discipline.specs.declared.table.Held.{Held}
 
--- what is held of the cell that an instruction is about, and the flag of its thread
-pub record Held : Type 0 where
-  pub dirty : ℕ
-  pub owner : ℕ
-  pub sharing : ℕ
-
-abbrev pub held : ℕ → ℕ → ℕ → Held
-held dirty owner sharing = record { dirty = dirty; owner = owner; sharing = sharing }
-
--- the owner of cell c, its sharing mark, and the flag of row t
-abbrev pub owner_at : List ℕ → ℕ → ℕ
-owner_at owners c = get_or owners c 0
-
-abbrev pub mark_at : List ℕ → ℕ → ℕ
-mark_at sharing c = get_or sharing c 0
-
-abbrev pub flag_at : List ℕ → ℕ → ℕ
-flag_at dirty t = get_or dirty t 0
-
--- of the cell of instruction i and of row t
+-- the owner and the sharing mark of the cell of instruction i, and the flag of row t
 unfoldable pub held_of : List ℕ → List ℕ → List ℕ → ℕ → Instruction → Held
-held_of owners sharing dirty t i = held (flag_at dirty t) (owner_at owners (cell_of i)) (mark_at sharing (cell_of i))
+held_of owners sharing dirty t i = record { dirty = get_or dirty t 0; owner = get_or owners (cell_of i) 0; sharing = get_or sharing (cell_of i) 0 }
 
 abbrev pub held_in : State → ℕ → Instruction → Held
 held_in s t i = held_of s.owners s.sharing s.dirty t i
@@ -70,22 +52,6 @@ owners_with owners c owner = set owners c owner
 
 abbrev pub sharing_with : List ℕ → ℕ → ℕ → List ℕ
 sharing_with sharing c mark = set sharing c mark
-
--- the table in the array that a run lends: the owners, and behind them the sharing marks
-abbrev pub owners_in : List (List ℕ) → List ℕ
-owners_in table = get_or table 0 []
-
-abbrev pub sharing_in : List (List ℕ) → List ℕ
-sharing_in table = get_or table 1 []
-
-abbrev pub Tabled : List (List ℕ) → Type 0
-Tabled table = length table ≡ 2
-
--- the table once cell c has another owner and another sharing mark
-pub record Puts (table : List (List ℕ)) (c owner mark : ℕ) (table' : List (List ℕ)) : Type 0 where
-  pub tabled : Tabled table'
-  pub owners : owners_in table' ≡ owners_with (owners_in table) c owner
-  pub sharing : sharing_in table' ≡ sharing_with (sharing_in table) c mark
 
 -- the state that holds so much of the cell of instruction i and of the flag of row t
 unfoldable pub holding_of : State → ℕ → Instruction → Held → State

@@ -1,3 +1,9 @@
-// Cohen and Schirmer's ownership discipline over the machine: the rules on numbers, and the table and flags that they look at.
+// The top layer: Cohen and Schirmer's ownership discipline over the machine, the checked step, the run and the check of a whole case.
+pub mod check;
+pub mod decide;
+pub mod elsewhere;
+pub mod marks;
 pub mod rules;
+pub mod run;
+pub mod step;
 pub mod table;

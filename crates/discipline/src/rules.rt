@@ -1,56 +1,47 @@
-// The rules, each one test on the numbers that it looks at: the row of the thread, its flag, and the owner and the sharing mark of the cell.
-// An instruction is judged by them only where the machine does not hold it back.
-ghost use Rattle.std.specs.Prelude.{◌≡◌, not, ◌+◌, ◌<◌, eqb};
-ghost use Rattle.state.specs.Limits.{THREADS};
-ghost use Rattle.machine.specs.Effect.{guard};
-ghost use Rattle.discipline.specs.Table.{held};
-ghost use Rattle.discipline.specs.Rules.{load_breaks, store_breaks};
-ghost use Rattle.discipline.specs.Marks.{stored_of};
+// The rules, each one named test. An instruction is judged by them only where the machine does not hold it back.
+ghost use Rattle.std.specs.Prelude.{◌≡◌, ◌<◌};
+ghost use Rattle.reader.specs.Limits.{THREADS};
+ghost use Rattle.machine.specs.Action.{action_of};
+ghost use Rattle.discipline.specs.Rules.{load_breaks, store_breaks, acquire_breaks, release_breaks, broken_of};
 
-// Whether the thread of row t is the owner.
-fn is_own(owner: u8, t: usize) -> bool
-    requires { t < THREADS }
-    ensures { result ≡ eqb owner (t + 1) }
-{
-    owner as usize == t + 1
-}
+use crate::table;
+use crate::table::Held;
+use machine::effect::Seen;
+use reader::state::{Instruction, Queue};
 
 // 30: load of another's local cell. 31: load of a shared cell not one's own, dirty flag set.
-pub fn load(t: usize, dirty: u32, owner: u8, sharing: u8) -> u32
+fn load(t: usize, h: Held) -> u32
     requires { t < THREADS }
-    ensures { result ≡ load_breaks t (held dirty owner sharing) }
+    ensures { result ≡ load_breaks t h }
 {
-    if is_own(owner, t) {
+    if table::is_own(h, t) {
         return 0;
     }
-    if sharing == 0 {
+    if h.sharing == 0 {
         return 30;
     }
-    if dirty != 0 {
+    if h.dirty != 0 {
         return 31;
     }
     0
 }
 
 // 32: store or COMPARE-SWAP to another's cell.
-pub fn store(t: usize, dirty: u32, owner: u8, sharing: u8) -> u32
+fn store(t: usize, h: Held) -> u32
     requires { t < THREADS }
-    ensures { result ≡ store_breaks t (held dirty owner sharing) }
+    ensures { result ≡ store_breaks t h }
 {
-    if owner == 0 {
-        return 0;
+    if table::is_others(h, t) {
+        return 32;
     }
-    if is_own(owner, t) {
-        return 0;
-    }
-    32
+    0
 }
 
 // 33: ACQUIRE of an owned cell, one's own too. 34: ACQUIRE with a store to it pending elsewhere.
-pub fn acquire(owner: u8, elsewhere: bool) -> u32
-    ensures { result ≡ guard (not (eqb owner 0)) 33 (guard elsewhere 34 0) }
+fn acquire(t: usize, h: Held, elsewhere: bool) -> u32
+    ensures { result ≡ acquire_breaks t h elsewhere }
 {
-    if owner != 0 {
+    if h.owner != 0 {
         return 33;
     }
     if elsewhere {
@@ -60,28 +51,36 @@ pub fn acquire(owner: u8, elsewhere: bool) -> u32
 }
 
 // 35: RELEASE of a cell not one's own. 36: RELEASE with pending stores.
-pub fn release(t: usize, owner: u8, count: usize) -> u32
+fn release(t: usize, h: Held, q: Queue) -> u32
     requires { t < THREADS }
-    ensures { result ≡ guard (not (eqb owner (t + 1))) 35 (guard (not (eqb count 0)) 36 0) }
+    ensures { result ≡ release_breaks t h q }
 {
-    if !is_own(owner, t) {
+    if !table::is_own(h, t) {
         return 35;
     }
-    if count != 0 {
+    if q.count != 0 {
         return 36;
     }
     0
 }
 
-// A store to any cell but an own local one sets the flag.
-pub fn flag(t: usize, dirty: u32, owner: u8, sharing: u8) -> u32
+// The number of the rule that an instruction of row t breaks, or 0.
+pub fn broken(t: usize, h: Held, q: Queue, elsewhere: bool, i: Instruction, v: Seen) -> u32
     requires { t < THREADS }
-    ensures { result ≡ (stored_of (held dirty owner sharing) t).dirty }
+    ensures { result ≡ broken_of t h q elsewhere (action_of i v.at v.content) }
 {
-    if is_own(owner, t) {
-        if sharing == 0 {
-            return dirty;
-        }
+    let operation = i.operation;
+    match operation {
+        1 => load(t, h),
+        2 => store(t, h),
+        3 => store(t, h),
+        4 => 0,
+        5 => store(t, h),
+        6 => acquire(t, h, elsewhere),
+        7 => acquire(t, h, elsewhere),
+        8 => release(t, h, q),
+        9 => 0,
+        10 => 0,
+        _ => 0,
     }
-    1
 }

@@ -1,54 +1,75 @@
-// The ownership table and the dirty flags, in the arrays that a run lends. Nobody else looks into them: how they are kept is known here alone.
+// The ownership table and the dirty flag: read for the rules, and put back. Nobody else in this layer indexes them. What an item makes of them is decided in marks.
 ghost use Rattle.std.specs.Prelude.{◌≡◌, ◌+◌, ◌<◌};
-ghost use Rattle.state.specs.Limits.{THREADS, CELLS};
-ghost use Rattle.machine.specs.Action.{SHARED};
-ghost use Rattle.discipline.specs.Table.{owners_in, sharing_in, owner_at, mark_at, flag_at, flags_with, Tabled, Puts};
+ghost use Rattle.reader.specs.Limits.{THREADS, CELLS};
+ghost use Rattle.machine.specs.Look.{Lookable};
+ghost use Rattle.discipline.specs.Table.{held_of, flags_with, owners_with, sharing_with, owns, others};
 
-use state::State;
+use machine::effect;
+use reader::state::{Instruction, State};
 
-// The owner of cell c, its sharing mark, and the flag of row t.
-pub fn owner(table: &[[u8; State::CELLS]; 2], c: usize) -> u8
-    requires { c < CELLS }
-    ensures { result ≡ owner_at (owners_in table.now) c }
-{
-    table[0][c]
+// What is held of the cell that an instruction is about, and the flag of its thread.
+#[derive(Drop)]
+pub struct Held {
+    pub dirty: u32,
+    pub owner: u8,
+    pub sharing: u8,
 }
 
-pub fn mark(table: &[[u8; State::CELLS]; 2], c: usize) -> u8
-    requires { c < CELLS }
-    ensures { result ≡ mark_at (sharing_in table.now) c }
+pub fn look<'a>(
+    owners: &'a [u8; State::CELLS],
+    sharing: &'a [u8; State::CELLS],
+    dirty: &'a [u32; State::THREADS],
+    t: usize,
+    i: Instruction,
+) -> Held
+    requires { Lookable t i }
+    ensures { result ≡ held_of owners.now sharing.now dirty.now t i }
 {
-    table[1][c]
+    let c = effect::cell_of(i);
+    Held {
+        dirty: dirty[t],
+        owner: owners[c],
+        sharing: sharing[c],
+    }
 }
 
-pub fn flag(dirty: &[u32; State::THREADS], t: usize) -> u32
+// What is then held is put back: the flag of row t, the owner and the sharing mark of cell c.
+pub fn put_flag(dirty: &mut [u32; State::THREADS], t: usize, h: Held)
     requires { t < THREADS }
-    ensures { result ≡ flag_at dirty.now t }
+    ensures { dirty.new ≡ flags_with dirty.old t h.dirty }
 {
-    dirty[t]
+    dirty[t] = h.dirty;
 }
 
-pub fn put_flag(dirty: &mut [u32; State::THREADS], t: usize, flag: u32)
+pub fn put_owner(owners: &mut [u8; State::CELLS], c: usize, h: Held)
+    requires { c < CELLS }
+    ensures { owners.new ≡ owners_with owners.old c h.owner }
+{
+    owners[c] = h.owner;
+}
+
+pub fn put_sharing(sharing: &mut [u8; State::CELLS], c: usize, h: Held)
+    requires { c < CELLS }
+    ensures { sharing.new ≡ sharing_with sharing.old c h.sharing }
+{
+    sharing[c] = h.sharing;
+}
+
+// Whether the thread of row t owns the cell.
+pub fn is_own(h: Held, t: usize) -> bool
     requires { t < THREADS }
-    ensures { dirty.new ≡ flags_with dirty.old t flag }
+    ensures { result ≡ owns h t }
 {
-    dirty[t] = flag;
+    h.owner as usize == t + 1
 }
 
-// The thread of row t becomes owner of cell c, which gets a sharing mark.
-pub fn acquire(table: &mut [[u8; State::CELLS]; 2], c: usize, t: usize, mark: u8)
-    requires { Tabled table.old × ((c < CELLS) × (t < THREADS)) }
-    ensures { Puts table.old c (t + 1) mark table.new }
+// Whether another thread owns the cell.
+pub fn is_others(h: Held, t: usize) -> bool
+    requires { t < THREADS }
+    ensures { result ≡ others h t }
 {
-    table[0][c] = (t + 1) as u8;
-    table[1][c] = mark;
-}
-
-// Cell c becomes unowned and shared.
-pub fn release(table: &mut [[u8; State::CELLS]; 2], c: usize)
-    requires { Tabled table.old × (c < CELLS) }
-    ensures { Puts table.old c 0 SHARED table.new }
-{
-    table[0][c] = 0;
-    table[1][c] = 1;
+    if h.owner == 0 {
+        return false;
+    }
+    !is_own(h, t)
 }

@@ -1,7 +1,2 @@
--- The laws of what is judged and printed.
+-- The law that joins the check and the report.
 pub mod Joined
-pub mod First
-pub mod Beyond
-pub mod CellCount
-pub mod Ran
-pub mod Coincide

@@ -1,11 +1,11 @@
 -- Forwarding is memory after the own buffer has drained into it: once over the depth and the cell.
 use Rattle.std.proofs.Common.{◌≡◌, ℕ, zero, suc, ◌<◌, ◌≤◌, Bool, true, false, eqb, List, [], ◌∷◌, ◌++◌, length, get_or, take, set, ℤ, pos, sym, refl, ap, ◌∙◌, arith, length-set, get_or-set_other, take-suc, get_or-set_same, eqb-true}
 use borrow.Author.Tests.{eqb-false}
-use Rattle.state.specs.declared.Pending.{Pending}
-use Rattle.state.specs.declared.Queue.{Queue}
-use Rattle.state.specs.State.{no_pending}
-use Rattle.state.specs.Queue.{pending}
-use Rattle.state.specs.Pick.{pick}
+use Rattle.reader.specs.declared.state.Pending.{Pending}
+use Rattle.reader.specs.declared.state.Queue.{Queue}
+use Rattle.reader.specs.State.{no_pending}
+use Rattle.reader.specs.Queue.{pending}
+use Rattle.reader.specs.Rules.{pick}
 use Rattle.machine.specs.Buffer.{newest_of, forwarded}
 use Rattle.machine.specs.Forward.{settled}
 

@@ -1,13 +1,13 @@
 -- What a step of one thread does to its own row, and that it leaves the rows of the others. Once over the thread number.
-use Rattle.std.proofs.Common.{◌≡◌, ℕ, ◌<◌, ◌≤◌, drop, pos, refl, arith, get_or-set_other, get_or-set_same}
-use Rattle.state.specs.declared.Instruction.{Instruction}
-use Rattle.state.specs.declared.State.{State}
-use Rattle.state.specs.Limits.{THREADS, CELLS, REGISTERS, DEPTH}
-use Rattle.state.specs.State.{outside_queue, queue_of, position_of, register_place, register_of, memory_of}
-use Rattle.state.specs.Queue.{pending, popped_of}
-use Rattle.state.specs.Drain.{oldest_of, drained_of}
+use Rattle.std.proofs.Common.{◌≡◌, ℕ, ◌-◌, ◌<◌, ◌≤◌, drop, pos, refl, arith, get_or-set_other, get_or-set_same}
+use Rattle.reader.specs.declared.state.Instruction.{Instruction}
+use Rattle.reader.specs.declared.state.State.{State}
+use Rattle.reader.specs.Limits.{THREADS, CELLS, REGISTERS, DEPTH}
+use Rattle.reader.specs.State.{outside_queue, queue_of, position_of, register_place, register_of, memory_of}
+use Rattle.reader.specs.Queue.{pending, popped_of}
+use Rattle.reader.specs.Drain.{oldest_of, drained_of}
 use Rattle.reader.specs.Range.{Shaped}
-use Rattle.state.proofs.Row.{pending_popped}
+use Rattle.reader.proofs.Row.{pending_popped}
 use Rattle.machine.specs.declared.effect.Effect.{Effect}
 use Rattle.machine.specs.Buffer.{after_of}
 use Rattle.machine.specs.Effect.{took_of}

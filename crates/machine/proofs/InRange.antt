@@ -1,12 +1,11 @@
 -- In range is kept by every item, on both machines, and so are the sizes.
 use Rattle.std.proofs.Common.{◌≡◌, ℕ, zero, suc, ◌-◌, ◌<◌, ◌≤◌, Bool, true, false, eqb, ltb, leb, refl, subst, arith, ltb-false, ltb-true, lt-ltb, leb-false, leb-true}
-use Rattle.state.specs.declared.State.{State}
-use Rattle.state.specs.State.{no_queue, queue_of, position_of, count_of, register_of}
-use Rattle.state.specs.Pick.{pick}
-use Rattle.fields.specs.Rules.{item_fits}
-use Rattle.state.specs.Drain.{drained_of}
+use Rattle.reader.specs.declared.state.State.{State}
+use Rattle.reader.specs.State.{no_queue, queue_of, position_of, count_of, register_of}
+use Rattle.reader.specs.Rules.{pick, item_fits}
+use Rattle.reader.specs.Drain.{drained_of}
 use Rattle.reader.specs.Range.{InRange}
-use Rattle.fields.proofs.Tests.{false_true}
+use Rattle.reader.proofs.Tests.{false_true}
 use Rattle.machine.specs.declared.outcome.Outcome.{Outcome}
 use Rattle.machine.specs.Action.{action_of, current_of, next_of}
 use Rattle.machine.specs.Effect.{seen_of, guard, blocked_of, effect_of, took_of}

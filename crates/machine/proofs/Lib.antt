@@ -1,5 +1,4 @@
 pub mod Bits
-pub mod Integers
 pub mod Newest
 pub mod Ten
 pub mod Take
@@ -8,6 +7,6 @@ pub mod Runs
 pub mod Kept
 pub mod InRange
 pub mod Forward
+pub mod PlainRun
 pub mod Frame
 pub mod Shape
-pub mod About

@@ -1,8 +1,8 @@
 -- The search for the newest pending store, a place at a time from the newest back.
 use Rattle.std.proofs.Common.{◌≡◌, ℕ, suc, ◌-◌, ◌<◌, eqb, List, get_or, ℤ, ap, ◌∙◌, arith, eq-eqb, ne_eqb}
-use Rattle.state.specs.declared.Pending.{Pending}
-use Rattle.state.specs.State.{no_pending}
-use Rattle.state.specs.Pick.{pick}
+use Rattle.reader.specs.declared.state.Pending.{Pending}
+use Rattle.reader.specs.State.{no_pending}
+use Rattle.reader.specs.Rules.{pick}
 use Rattle.machine.specs.Buffer.{newest_of}
 
 module _ (es : List Pending) (n c : ℕ) (d : ℤ) (some : 0 < n) where

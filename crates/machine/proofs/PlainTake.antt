@@ -1,11 +1,11 @@
 -- The next instruction of a thread on the one-memory machine, as the code carries it out.
 use Rattle.std.proofs.Common.{◌≡◌, ℕ, ◌<◌, ◌≤◌, true, sym, refl}
-use Rattle.state.specs.declared.Queue.{Queue}
-use Rattle.state.specs.declared.Instruction.{Instruction}
-use Rattle.state.specs.declared.State.{State}
-use Rattle.state.specs.State.{no_queue, position_of, count_of}
+use Rattle.reader.specs.declared.state.Queue.{Queue}
+use Rattle.reader.specs.declared.state.Instruction.{Instruction}
+use Rattle.reader.specs.declared.state.State.{State}
+use Rattle.reader.specs.State.{no_queue, position_of, count_of}
 use Rattle.reader.specs.Range.{InRange}
-use Rattle.fields.proofs.Tests.{false_true}
+use Rattle.reader.proofs.Tests.{false_true}
 use Rattle.machine.specs.declared.effect.Seen.{Seen}
 use Rattle.machine.specs.declared.effect.Effect.{Effect}
 use Rattle.machine.specs.Action.{action_of, current_of, next_of}

@@ -1,8 +1,8 @@
 -- A run of items, one at a time, on any machine that steps: what is left of it gives the same answer. P is what the machine asks of its states.
 use Rattle.std.proofs.Common.{◌≡◌, ℕ, suc, ◌+◌, ◌<◌, ◌≤◌, Bool, true, false, eqb, List, [], ◌∷◌, ◌++◌, length, get_or, take, drop, set, ℤ, sym, refl, ap, ◌∙◌, append-nil, add-one, arith, length-set, take-append-drop, drop_of_length-le, drop-cons, drop-drop, take-suc-set, drop-set-lt, eq-eqb, ne_eqb}
 use lib.Seq.{append_snoc}
-use Rattle.state.specs.declared.State.{State}
-use Rattle.state.specs.Pick.{pick}
+use Rattle.reader.specs.declared.state.State.{State}
+use Rattle.reader.specs.Rules.{pick}
 use Rattle.machine.specs.declared.outcome.Outcome.{Outcome}
 use Rattle.machine.specs.Run.{run_of, values_of, Answers}
 
@@ -37,20 +37,6 @@ module _ (step : State → ℕ → Outcome) where
       go : (b : Bool) → (run_of step (step m x).state (suc k) xs).place ≤ suc k + length xs → (pick b (run_of step (step m x).state (suc k) xs) (record { state = m; place = k; number = (step m x).number })).place ≤ k + suc (length xs)
       go true h = omega arith
       go false h = omega arith
-
-  -- a value for each item taken
-  pub values_length : (m : State) (k : ℕ) (xs : List ℕ) → k + length (values_of step m xs) ≡ (run_of step m k xs).place
-  unfolding run_of values_of
-  values_length m k [] = omega arith
-  values_length m k (x ∷ xs) = go (eqb (step m x).number 0) (values_length (step m x).state (suc k) xs)
-    where
-      go : (b : Bool) → suc k + length (values_of step (step m x).state xs) ≡ (run_of step (step m x).state (suc k) xs).place → k + length (pick b ((step m x).value ∷ values_of step (step m x).state xs) []) ≡ (pick b (run_of step (step m x).state (suc k) xs) (record { state = m; place = k; number = (step m x).number })).place
-      go true h = omega arith
-      go false h = omega arith
-
-  -- so a run from its start has as many values as items taken
-  pub values_taken : (m : State) (xs : List ℕ) → length (values_of step m xs) ≡ (run_of step m 0 xs).place
-  values_taken m xs = let e = values_length m 0 xs in omega arith
 
   module _ {P : State → Type 0} where
     pub start : (m : State) (xs : List ℕ) (vs : List ℤ) → P m → Going step P m xs vs m 0 vs

@@ -1,15 +1,15 @@
 -- Every array stays as long as it was.
 use Rattle.std.proofs.Common.{◌≡◌, ℕ, ◌<◌, ◌≤◌, Bool, true, false, length, get_or, set, refl, ◌∙◌, arith, length-set}
-use Rattle.state.specs.declared.Pending.{Pending}
-use Rattle.state.specs.declared.Queue.{Queue}
-use Rattle.state.specs.declared.Instruction.{Instruction}
-use Rattle.state.specs.declared.State.{State}
-use Rattle.state.specs.Limits.{THREADS, DEPTH}
-use Rattle.state.specs.State.{outside_queue, queue_of}
-use Rattle.state.specs.Queue.{popped_of}
-use Rattle.state.specs.Drain.{drained_of}
+use Rattle.reader.specs.declared.state.Pending.{Pending}
+use Rattle.reader.specs.declared.state.Queue.{Queue}
+use Rattle.reader.specs.declared.state.Instruction.{Instruction}
+use Rattle.reader.specs.declared.state.State.{State}
+use Rattle.reader.specs.Limits.{THREADS, DEPTH}
+use Rattle.reader.specs.State.{outside_queue, queue_of}
+use Rattle.reader.specs.Queue.{popped_of}
+use Rattle.reader.specs.Drain.{drained_of}
 use Rattle.reader.specs.Range.{Shaped}
-use Rattle.state.proofs.Row.{length_popped, length_pushed}
+use Rattle.reader.proofs.Row.{length_popped, length_pushed}
 use Rattle.machine.specs.declared.effect.Effect.{Effect}
 use Rattle.machine.specs.Buffer.{after_of}
 use Rattle.machine.specs.Effect.{took_of}

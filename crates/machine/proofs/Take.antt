@@ -1,17 +1,16 @@
 -- The next instruction of a thread: what the code looks at, decides and stores is the step of the definition.
 use Rattle.std.proofs.Common.{◌≡◌, ℕ, zero, suc, ◌+◌, ◌-◌, ◌<◌, ◌≤◌, Bool, true, false, ◌||◌, eqb, leb, ◌⊎◌, List, ℤ, sym, refl, ap, ◌∙◌, subst, inl, inr, ⊎_elim, arith, le-ltb, lt-ltb, leb-false, leb-true}
 use borrow.Author.Tests.{eqb-false}
-use Rattle.state.specs.declared.Queue.{Queue}
-use Rattle.state.specs.declared.Instruction.{Instruction}
-use Rattle.state.specs.declared.State.{State}
-use Rattle.state.specs.Limits.{THREADS, DEPTH, INSTRUCTIONS}
-use Rattle.state.specs.State.{queue_of, position_of, count_of}
-use Rattle.state.specs.Pick.{pick}
-use Rattle.fields.specs.Rules.{within, BRANCH, item_fits}
-use Rattle.state.specs.Drain.{Drainable}
+use Rattle.reader.specs.declared.state.Queue.{Queue}
+use Rattle.reader.specs.declared.state.Instruction.{Instruction}
+use Rattle.reader.specs.declared.state.State.{State}
+use Rattle.reader.specs.Limits.{THREADS, DEPTH, INSTRUCTIONS}
+use Rattle.reader.specs.State.{queue_of, position_of, count_of}
+use Rattle.reader.specs.Rules.{pick, within, BRANCH, item_fits}
+use Rattle.reader.specs.Drain.{Drainable}
 use Rattle.reader.specs.Range.{InRange}
-use Rattle.fields.proofs.Tests.{false_true, within_true}
-use Rattle.fields.proofs.Instructions.{InstructionIn, instruction_in}
+use Rattle.reader.proofs.Tests.{false_true, within_true}
+use Rattle.reader.proofs.Instructions.{InstructionIn, instruction_in}
 use Rattle.machine.specs.declared.effect.Seen.{Seen}
 use Rattle.machine.specs.declared.effect.Effect.{Effect}
 use Rattle.machine.specs.declared.outcome.Outcome.{Outcome}
@@ -85,17 +84,17 @@ module _ (threads x : ℕ) (e : item_fits threads x ≡ true) where
   take_row h = ⊎_elim (λ a. (a.0, omega arith)) (λ a. absurd (omega arith)) item_cases
 
 -- so what holds of every row's two items holds of every item that is right
-pub by_kind : (threads : ℕ) → threads ≤ THREADS → (P : ℕ → Type 0) → ((t : ℕ) → t < threads → P (t + 17)) → ((t : ℕ) → t < threads → P (t + 1)) → (x : ℕ) → item_fits threads x ≡ true → P x
+pub by_kind : (threads : ℕ) → threads ≤ THREADS → (P : ℕ → Type 0) → ((t : ℕ) → t < threads → P (17 + t)) → ((t : ℕ) → t < threads → P (1 + t)) → (x : ℕ) → item_fits threads x ≡ true → P x
 by_kind threads k P drains takes x f = go (leb 17 x) refl
   where
     go : (b : Bool) → leb 17 x ≡ b → P x
     go true e =
         let l = leb-true 17 x e in
-        let q : x - 17 + 17 ≡ x = omega arith in
+        let q : 17 + (x - 17) ≡ x = omega arith in
         subst P q (drains (x - 17) (drain_row threads x f l k))
     go false e =
         let r = take_row threads x f (leb-false 17 x e) in
-        let q : x - 1 + 1 ≡ x = omega (arith, r.0) in
+        let q : 1 + (x - 1) ≡ x = omega (arith, r.0) in
         subst P q (takes (x - 1) r.1)
 
 -- a store is the only action that puts something into the buffer

@@ -1,11 +1,10 @@
 -- The ten operations, one by one: an operation that none of ten arms takes is none of them, and each of them is an action.
 use Rattle.std.proofs.Common.{◌≡◌, ℕ, zero, suc, ◌+◌, ◌<◌, ◌≤◌, Bool, true, false, [], ◌∷◌, get_or, ℤ, refl, arith}
-use Rattle.state.specs.declared.Instruction.{Instruction}
-use Rattle.state.specs.declared.Queue.{Queue}
-use Rattle.state.specs.Pick.{pick}
-use Rattle.fields.specs.Rules.{BRANCH}
-use Rattle.fields.proofs.Tests.{false_true}
-use Rattle.fields.proofs.Instructions.{InstructionIn}
+use Rattle.reader.specs.declared.state.Instruction.{Instruction}
+use Rattle.reader.specs.declared.state.Queue.{Queue}
+use Rattle.reader.specs.Rules.{pick, BRANCH}
+use Rattle.reader.proofs.Tests.{false_true}
+use Rattle.reader.proofs.Instructions.{InstructionIn}
 use Rattle.machine.specs.declared.effect.Seen.{Seen}
 use Rattle.machine.specs.Integer.{eq_z}
 use Rattle.machine.specs.Effect.{effect_of}

@@ -1,10 +1,10 @@
 -- What an instruction is, said once for the machine with buffers and the one-memory machine. Position, branch, sum and the two kinds of STORE
 -- are settled here.
 use Rattle.std.specs.Prelude.{ℕ, ◌+◌, [], ◌∷◌, ℤ, nat_lt, slice_index_or}
-use Rattle.state.specs.declared.Instruction.{Instruction}
-use Rattle.state.specs.declared.State.{State}
-use Rattle.state.specs.State.{position_of, count_of, instruction_of, register_of}
-use Rattle.state.specs.Pick.{pick}
+use Rattle.reader.specs.declared.state.Instruction.{Instruction}
+use Rattle.reader.specs.declared.state.State.{State}
+use Rattle.reader.specs.State.{position_of, count_of, instruction_of, register_of}
+use Rattle.reader.specs.Rules.{pick}
 use Rattle.machine.specs.Integer.{eq_z, sum_of}
 
 pub data Action : Type 0 where

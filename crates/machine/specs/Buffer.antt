@@ -1,10 +1,10 @@
 -- Looking into a buffer, on its row as it stands: from the newest pending store back.
 use Rattle.std.specs.Prelude.{ℕ, zero, suc, Bool, List, ℤ, ◌==◌, slice_index_or}
-use Rattle.state.specs.declared.Pending.{Pending}
-use Rattle.state.specs.declared.Queue.{Queue}
-use Rattle.state.specs.State.{no_pending}
-use Rattle.state.specs.Queue.{pushed_of}
-use Rattle.state.specs.Pick.{pick}
+use Rattle.reader.specs.declared.state.Pending.{Pending}
+use Rattle.reader.specs.declared.state.Queue.{Queue}
+use Rattle.reader.specs.State.{no_pending}
+use Rattle.reader.specs.Queue.{pushed_of}
+use Rattle.reader.specs.Rules.{pick}
 
 -- the newest of the first n entries that is to cell c, or else d
 unfoldable pub newest_of : List Pending → ℕ → ℕ → ℤ → ℤ

@@ -1,11 +1,10 @@
 -- What an action finds, and what it then does to its thread's register and position, to memory and to its buffer.
 use Rattle.std.specs.Prelude.{ℕ, ◌+◌, Bool, true, false, not, ℤ, pos, ◌==◌, nat_le, slice_set}
-use Rattle.state.specs.declared.Queue.{Queue}
-use Rattle.state.specs.declared.Instruction.{Instruction}
-use Rattle.state.specs.declared.State.{State}
-use Rattle.state.specs.State.{queue_of, position_of, register_place, register_of, memory_of}
-use Rattle.state.specs.Pick.{pick}
-use Rattle.fields.specs.Rules.{BRANCH}
+use Rattle.reader.specs.declared.state.Queue.{Queue}
+use Rattle.reader.specs.declared.state.Instruction.{Instruction}
+use Rattle.reader.specs.declared.state.State.{State}
+use Rattle.reader.specs.State.{queue_of, position_of, register_place, register_of, memory_of}
+use Rattle.reader.specs.Rules.{pick, BRANCH}
 use Rattle.machine.specs.declared.effect.Seen.{Seen}
 use Rattle.machine.specs.declared.effect.Effect.{Effect}
 use Rattle.machine.specs.Integer.{eq_z}

@@ -1,8 +1,8 @@
 -- What the code looks up before it decides, on the arrays that it is handed.
 use Rattle.std.specs.Prelude.{ℕ, ◌<◌, List, ℤ, pos, slice_index_or}
-use Rattle.state.specs.declared.Instruction.{Instruction}
-use Rattle.state.specs.Limits.{THREADS, CELLS, REGISTERS}
-use Rattle.state.specs.State.{register_place}
+use Rattle.reader.specs.declared.state.Instruction.{Instruction}
+use Rattle.reader.specs.Limits.{THREADS, CELLS, REGISTERS}
+use Rattle.reader.specs.State.{register_place}
 use Rattle.machine.specs.declared.effect.Seen.{Seen}
 use Rattle.machine.specs.Effect.{cell_of}
 

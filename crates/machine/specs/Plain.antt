@@ -1,8 +1,8 @@
 -- The one-memory machine: the same actions on a state whose buffers are not used. An order names threads, from 1 on.
 use Rattle.std.specs.Prelude.{ℕ, ◌-◌, ◌<◌, ◌≤◌, false, List, length, pos, slice_index}
-use Rattle.state.specs.declared.State.{State}
-use Rattle.state.specs.State.{no_queue}
-use Rattle.state.specs.Pick.{pick}
+use Rattle.reader.specs.declared.state.State.{State}
+use Rattle.reader.specs.State.{no_queue}
+use Rattle.reader.specs.Rules.{pick}
 use Rattle.machine.specs.declared.effect.Effect.{Effect}
 use Rattle.machine.specs.declared.outcome.Outcome.{Outcome}
 use Rattle.machine.specs.Action.{Action, read, store, fence, swap, acquire, release, silent, end, current_of, next_of}

@@ -1,7 +1,7 @@
 -- A run of items on any machine that steps: until the first item that is not taken. Every machine of this product runs by this definition.
 use Rattle.std.specs.Prelude.{◌≡◌, ℕ, zero, suc, List, [], ◌∷◌, ◌++◌, drop, ℤ, pos, ◌==◌}
-use Rattle.state.specs.declared.State.{State}
-use Rattle.state.specs.Pick.{pick}
+use Rattle.reader.specs.declared.state.State.{State}
+use Rattle.reader.specs.Rules.{pick}
 use Rattle.machine.specs.declared.outcome.Outcome.{Outcome}
 use Rattle.machine.specs.declared.outcome.Ran.{Ran}
 

@@ -1,9 +1,9 @@
 -- The machine with buffers, without any rule of ownership: what an item does, or what holds it back.
 use Rattle.std.specs.Prelude.{ℕ, ◌-◌, pos, ◌==◌, nat_le}
-use Rattle.state.specs.declared.State.{State}
-use Rattle.state.specs.State.{queue_of}
-use Rattle.state.specs.Drain.{drained_of}
-use Rattle.state.specs.Pick.{pick}
+use Rattle.reader.specs.declared.state.State.{State}
+use Rattle.reader.specs.State.{queue_of}
+use Rattle.reader.specs.Drain.{drained_of}
+use Rattle.reader.specs.Rules.{pick}
 use Rattle.machine.specs.declared.effect.Effect.{Effect}
 use Rattle.machine.specs.declared.outcome.Outcome.{Outcome}
 use Rattle.machine.specs.Action.{current_of, next_of}

@@ -1,9 +1,9 @@
 // Looking into a buffer, and the row after an instruction.
 ghost use Rattle.std.specs.Prelude.{◌≡◌, ◌<◌, ◌≤◌, true};
-ghost use Rattle.state.specs.Limits.{DEPTH};
+ghost use Rattle.reader.specs.Limits.{DEPTH};
 ghost use Rattle.machine.specs.Buffer.{forwarded, after_of};
 
-use state::{Pending, Queue};
+use reader::state::{Pending, Queue};
 
 // The newest pending store to a cell, or else the word in memory.
 pub fn newest(q: Queue, cell: u32, word: i32) -> i32

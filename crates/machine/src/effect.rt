@@ -1,15 +1,15 @@
-// What an instruction finds, what holds it back, and what it does: decided on numbers and small structs. The run tests by the same numbers.
-ghost use Rattle.std.specs.Prelude.{◌≡◌, ◌+◌, ◌*◌, ◌<◌, ◌≤◌, true, not, ◌==◌, nat_le};
-ghost use Rattle.state.specs.Limits.{THREADS, CELLS, REGISTERS, DEPTH, INSTRUCTIONS};
-ghost use Rattle.state.specs.State.{code_place, register_place, queue_of};
-ghost use Rattle.state.specs.Pick.{pick};
+// What an instruction finds, what holds it back, and what it does: decided on small structs, so that a run can store in place.
+ghost use Rattle.std.specs.Prelude.{◌≡◌, ◌+◌, ◌*◌, ◌<◌, ◌≤◌, true, nat_le};
+ghost use Rattle.reader.specs.Limits.{THREADS, CELLS, REGISTERS, DEPTH, INSTRUCTIONS};
+ghost use Rattle.reader.specs.State.{code_place, register_place, queue_of};
+ghost use Rattle.reader.specs.Rules.{pick};
 ghost use Rattle.machine.specs.Integer.{eq_z, sum_of};
 ghost use Rattle.machine.specs.Action.{action_of, read, store, swap, silent};
-ghost use Rattle.machine.specs.Effect.{cell_of, guard, blocked_of, quiet_of, effect_of, took_of};
+ghost use Rattle.machine.specs.Effect.{cell_of, guard, pends, blocked_of, quiet_of, effect_of, took_of};
 ghost use Rattle.machine.specs.Look.{Lookable, looked_of};
 
 use crate::{buffer, integer};
-use state::{Instruction, Pending, Queue, State};
+use reader::state::{Instruction, Pending, Queue, State};
 
 // What an instruction finds: its thread's position, its register's content, and its cell's word in memory.
 #[derive(Drop)]
@@ -78,20 +78,20 @@ pub fn looked<'a>(
 }
 
 // 21: FENCE or COMPARE-SWAP with pending stores.
-pub fn waits(count: usize) -> u32
-    ensures { result ≡ guard (not (count == 0)) 21 0 }
+fn waits(q: Queue) -> u32
+    ensures { result ≡ guard (pends q) 21 0 }
 {
-    if count != 0 {
+    if q.count != 0 {
         return 21;
     }
     0
 }
 
 // 22: STORE with depth already reached.
-pub fn full(depth: usize, count: usize) -> u32
-    ensures { result ≡ guard (nat_le depth count) 22 0 }
+fn full(depth: usize, q: Queue) -> u32
+    ensures { result ≡ guard (nat_le depth q.count) 22 0 }
 {
-    if depth <= count {
+    if depth <= q.count {
         return 22;
     }
     0
@@ -104,10 +104,10 @@ pub fn blocked(depth: usize, q: Queue, i: Instruction, v: Seen) -> u32
     let operation = i.operation;
     match operation {
         1 => 0,
-        2 => full(depth, q.count),
-        3 => full(depth, q.count),
-        4 => waits(q.count),
-        5 => waits(q.count),
+        2 => full(depth, q),
+        3 => full(depth, q),
+        4 => waits(q),
+        5 => waits(q),
         6 => 0,
         7 => 0,
         8 => 0,
@@ -153,8 +153,7 @@ fn store_value(v: Seen, q: Queue, i: Instruction, x: i32) -> Effect
     e
 }
 
-// What a cell of a COMPARE-SWAP then holds, and where a BRANCH goes: by a test on two words.
-pub fn value_if(x: i32, y: i32, a: i32, b: i32) -> i32
+fn value_if(x: i32, y: i32, a: i32, b: i32) -> i32
     ensures { result ≡ pick (eq_z x y) a b }
 {
     if x == y {
@@ -174,7 +173,7 @@ fn compare_swap(v: Seen, q: Queue, i: Instruction) -> Effect
     e
 }
 
-pub fn place_if(x: i32, y: i32, a: usize, b: usize) -> usize
+fn place_if(x: i32, y: i32, a: usize, b: usize) -> usize
     ensures { result ≡ pick (eq_z x y) a b }
 {
     if x == y {

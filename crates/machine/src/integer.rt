@@ -20,5 +20,5 @@ fn bits_of(x: i32) -> u32
 pub fn sum(x: i32, y: i32) -> i32
     ensures { result ≡ sum_of x y }
 {
-    fields::bytes::signed(std::num::wrapping_add_u32(bits_of(x), bits_of(y)))
+    reader::bytes::signed(std::num::wrapping_add_u32(bits_of(x), bits_of(y)))
 }

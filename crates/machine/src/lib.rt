@@ -1,5 +1,7 @@
-// The middle layer: the machine with store buffers, without any rule of ownership.
+// The middle layer: the machine with store buffers, without any rule of ownership, and the machine of one memory.
 pub mod buffer;
 pub mod effect;
 pub mod integer;
 pub mod outcome;
+pub mod plain;
+pub mod step;

@@ -2,7 +2,7 @@
 ghost use Rattle.std.specs.Prelude.{◌≡◌};
 ghost use Rattle.machine.specs.Run.{refused_of, taken_of};
 
-use state::State;
+use reader::state::State;
 
 // A step: the next state and what was read; or the number that holds the item back, and the state as it was.
 #[derive(Drop)]

@@ -6,20 +6,19 @@ use mathlib.Core.List.{List}
 use native.Mathlib.Omega.{arith}
 use lib.ListN.{get_or-replicate}
 use borrow.Author.Tests.{eqb-true, eqb-false}
-use Rattle.fields.specs.declared.judged.Judged.{Judged}
-use Rattle.state.specs.declared.State.{State}
-use Rattle.reader.specs.declared.part.Part.{Part}
+use Rattle.reader.specs.declared.judged.Judged.{Judged}
+use Rattle.reader.specs.declared.state.State.{State}
+use Rattle.reader.specs.declared.judged.Part.{Part}
 use Rattle.reader.specs.declared.Reading.{Reading}
-use Rattle.state.specs.Limits.{THREADS}
-use Rattle.fields.specs.Bytes.{byte}
-use Rattle.state.specs.State.{no_queue, outside_queue, queue_of, fresh_of}
-use Rattle.state.specs.Pick.{pick}
+use Rattle.reader.specs.Limits.{THREADS}
+use Rattle.reader.specs.Bytes.{byte}
+use Rattle.reader.specs.State.{no_queue, outside_queue, queue_of, fresh_of}
+use Rattle.reader.specs.Rules.{pick}
 use Rattle.reader.specs.Range.{CellIn, ProgramIn, InRange, Shaped, Started, WellFormed}
-use Rattle.fields.specs.Field.{fine}
-use Rattle.reader.specs.Case.{after, front_judged, sizes_judged, sized_of, cells_of, programs_of, scheduled_of, refused_of, read_of}
+use Rattle.reader.specs.Case.{fine, after, front_judged, sizes_judged, sized_of, cells_of, programs_of, scheduled_of, refused_of, read_of}
 use Rattle.reader.proofs.Kept.{Kept, kept_all, kept_threads, kept_cells, cells_kept, programs_kept}
 use Rattle.reader.proofs.Parts.{Sizes, sizes_fine, first_part}
-use Rattle.reader.proofs.CellRange.{cells_in_lem}
+use Rattle.reader.proofs.CellRange.{cells_in}
 use Rattle.reader.proofs.ProgramRange.{programs_in}
 use Rattle.reader.proofs.ScheduleRange.{schedule_right}
 
@@ -29,7 +28,7 @@ chosen_fine j r true z e = (eqb-true _ _ z, refl)
 chosen_fine j r false z e = absurd (eqb-false _ _ z e)
 
 -- what holds of the reading that comes after a part, where the part is fine
-pub through : (P : Reading → Type 0) (j : Judged) (r : Reading) → (j.number ≡ 0 → r.number ≡ 0 → P r) → (after j r).number ≡ 0 → P (after j r)
+through : (P : Reading → Type 0) (j : Judged) (r : Reading) → (j.number ≡ 0 → r.number ≡ 0 → P r) → (after j r).number ≡ 0 → P (after j r)
 through P j r k e = let f = chosen_fine j r (fine j) refl e in rw f.1 (k f.0 (rw f.1 at e))
 
 module _ (s : List ℕ) (m : State) (k : Kept (sized_of s) m) where
@@ -101,7 +100,7 @@ module _ (s : List ℕ) where
       let m = (programs_of s c).state in
       let k = cells_kept s o (first_part s) (kept_all o) in
       let t : c.state.threads ≡ byte s 3 = kept_threads k in
-      let g = cells_in_lem o (refl, refl) s (first_part s) z.cells.most (kept_all o) zc in
+      let g = cells_in o (refl, refl) s (first_part s) z.cells.most (kept_all o) zc in
       let b = z.threads.most in
       let p = programs_in c.state (k.counts, k.code) s c (omega arith) (record { kept = kept_all c.state; table = (refl, refl); program = λ u h. absurd (omega arith) }) za in
       let l = programs_kept s o c k in

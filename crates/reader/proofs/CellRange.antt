@@ -8,17 +8,17 @@ use lib.Dec.{leb, ltb}
 use lib.ListN.{length, get_or, set}
 use lib.Seq.{get_or-set_same, get_or-set_other}
 use borrow.Author.Tests.{leb-true, ltb-true}
-use Rattle.fields.specs.declared.bytes.Cell.{Cell}
-use Rattle.state.specs.declared.State.{State}
-use Rattle.reader.specs.declared.part.Part.{Part}
-use Rattle.state.specs.Limits.{CELLS}
-use Rattle.fields.specs.Bytes.{cell_at}
-use Rattle.fields.specs.Rules.{cell_bytes, cell_wrong}
+use Rattle.reader.specs.declared.bytes.Cell.{Cell}
+use Rattle.reader.specs.declared.state.State.{State}
+use Rattle.reader.specs.declared.judged.Part.{Part}
+use Rattle.reader.specs.Limits.{CELLS}
+use Rattle.reader.specs.Bytes.{cell_at}
+use Rattle.reader.specs.Rules.{cell_bytes, cell_wrong}
 use Rattle.reader.specs.Range.{CellIn}
 use Rattle.reader.specs.Case.{part_judged, cell_judged, with_cell, cell_into, cells_of}
-use Rattle.fields.proofs.Each.{each_fine}
-use Rattle.fields.proofs.Fields.{refuses, field_right, pick_fine}
-use Rattle.fields.proofs.Instructions.{checked}
+use Rattle.reader.proofs.Each.{each_fine}
+use Rattle.reader.proofs.Fields.{refuses, field_right, pick_fine}
+use Rattle.reader.proofs.Instructions.{checked}
 use Rattle.reader.proofs.Kept.{Kept, kept_cell}
 
 -- what a cell record that is not wrong holds
@@ -77,8 +77,8 @@ module _ (o : State) (room : (length o.owners ≡ CELLS) × (length o.sharing �
       rw (pick_fine (cell_judged s a.state.threads p) (with_cell a.state i x) a.state e)
       (cells_in_set h g x (cell_right a.state.threads x (field_right s cell_bytes 6 p w (refuses 5) e)))
 
-  pub cells_in_lem : (s : List ℕ) (a : Part) → a.state.cells ≤ CELLS → Kept o a.state → (cells_of s a).judged.number ≡ 0 → CellsIn o a.state.cells (cells_of s a).state
+  pub cells_in : (s : List ℕ) (a : Part) → a.state.cells ≤ CELLS → Kept o a.state → (cells_of s a).judged.number ≡ 0 → CellsIn o a.state.cells (cells_of s a).state
   unfolding cells_of
-  cells_in_lem s a h k e =
+  cells_in s a h k e =
       each_fine part_judged (cell_into s) PartIn a.state.cells (λ i b l. cell_in s i b (omega arith)) 0 a.state.cells a (omega arith)
       (record { kept = k; cell = λ c l. absurd (omega arith) }) e

@@ -4,16 +4,15 @@ use mathlib.Core.Bool.{Bool, true, false}
 use mathlib.Core.Path.{◌≡◌, refl, ap}
 use mathlib.Core.List.{List, []}
 use lib.ListN.{length, length-set}
-use Rattle.fields.specs.declared.judged.Judged.{Judged}
-use Rattle.fields.specs.declared.bytes.Cell.{Cell}
-use Rattle.state.specs.declared.Instruction.{Instruction}
-use Rattle.state.specs.declared.State.{State}
-use Rattle.reader.specs.declared.part.Part.{Part}
-use Rattle.state.specs.Pick.{pick}
-use Rattle.fields.specs.Bytes.{byte, cell_at, instruction_at}
-use Rattle.state.specs.Limits.{INSTRUCTIONS}
-use Rattle.fields.specs.Field.{fine, go_on, each, count_judged}
-use Rattle.reader.specs.Case.{filled, part_judged, cell_judged, with_cell, cell_into, cells_of, instruction_judged, with_instruction, instruction_into, instructions_of, with_count, program_into, programs_of}
+use Rattle.reader.specs.declared.judged.Judged.{Judged}
+use Rattle.reader.specs.declared.bytes.Cell.{Cell}
+use Rattle.reader.specs.declared.state.Instruction.{Instruction}
+use Rattle.reader.specs.declared.state.State.{State}
+use Rattle.reader.specs.declared.judged.Part.{Part}
+use Rattle.reader.specs.Rules.{pick}
+use Rattle.reader.specs.Bytes.{byte, cell_at, instruction_at}
+use Rattle.reader.specs.Limits.{INSTRUCTIONS}
+use Rattle.reader.specs.Case.{fine, filled, go_on, each, part_judged, count_judged, cell_judged, with_cell, cell_into, cells_of, instruction_judged, with_instruction, instruction_into, instructions_of, with_count, program_into, programs_of}
 
 -- all of a state but what cells and programs are read into
 abbrev frame_of : State → State
@@ -47,16 +46,16 @@ module _ {o m : State} (k : Kept o m) where
   pub kept_instruction : (t i : ℕ) (x : Instruction) → Kept o (with_instruction m t i x)
   kept_instruction t i x = record { frame = k.frame; memory = k.memory; owners = k.owners; sharing = k.sharing; counts = k.counts; code = simp length-set k.code }
 
-pub pick_all : {A : Type 0} (P : A → Type 0) (t : Bool) (a b : A) → P a → P b → P (pick t a b)
+pick_all : {A : Type 0} (P : A → Type 0) (t : Bool) (a b : A) → P a → P b → P (pick t a b)
 pick_all P true a b p q = p
 pick_all P false a b p q = q
 
-pub go_on_all : {A : Type 0} (P : A → Type 0) (t : Bool) (f : A → A) (a : A) → ((b : A) → P b → P (f b)) → P a → P (go_on t f a)
+go_on_all : {A : Type 0} (P : A → Type 0) (t : Bool) (f : A → A) (a : A) → ((b : A) → P b → P (f b)) → P a → P (go_on t f a)
 go_on_all P true f a h p = h a p
 go_on_all P false f a h p = p
 
 module _ {A : Type 0} (judged : A → Judged) (f : ℕ → A → A) (P : A → Type 0) (keep : (i : ℕ) (a : A) → P a → P (f i a)) where
-  pub each_all : (i n : ℕ) (a : A) → P a → P (each judged f i n a)
+  each_all : (i n : ℕ) (a : A) → P a → P (each judged f i n a)
   unfolding each
   each_all i zero a p = p
   each_all i (suc n) a p = go_on_all P (fine (judged (f i a))) (each judged f (suc i) n) (f i a) (λ b q. each_all (suc i) n b q) (keep i a p)
@@ -65,7 +64,7 @@ module _ (s : List ℕ) (o : State) where
   abbrev KeptPart : Part → Type 0
   KeptPart a = Kept o a.state
 
-  pub cell_kept : (c : ℕ) (a : Part) → KeptPart a → KeptPart (cell_into s c a)
+  cell_kept : (c : ℕ) (a : Part) → KeptPart a → KeptPart (cell_into s c a)
   unfolding cell_into
   cell_kept c a k = pick_all (Kept o) (fine (cell_judged s a.state.threads a.judged.place)) _ _ (kept_cell k c (cell_at s a.judged.place)) k
 
@@ -73,7 +72,7 @@ module _ (s : List ℕ) (o : State) where
   unfolding cells_of
   cells_kept a k = each_all part_judged (cell_into s) KeptPart cell_kept 0 a.state.cells a k
 
-  pub instruction_kept : (t count i : ℕ) (a : Part) → KeptPart a → KeptPart (instruction_into s t count i a)
+  instruction_kept : (t count i : ℕ) (a : Part) → KeptPart a → KeptPart (instruction_into s t count i a)
   unfolding instruction_into
   instruction_kept t count i a k = pick_all (Kept o) (fine (instruction_judged s a.state.cells count a.judged.place)) _ _ (kept_instruction k t i (instruction_at s a.judged.place)) k
 

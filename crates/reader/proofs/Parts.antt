@@ -4,15 +4,14 @@ use mathlib.Core.Path.{◌≡◌, sym, ap, ◌∙◌}
 use mathlib.Core.List.{List}
 use native.Mathlib.Omega.{arith}
 use borrow.Author.Tests.{eq-eqb, ne_eqb}
-use Rattle.fields.specs.declared.judged.Judged.{Judged}
-use Rattle.state.specs.declared.State.{State}
-use Rattle.reader.specs.declared.part.Part.{Part}
+use Rattle.reader.specs.declared.judged.Judged.{Judged}
+use Rattle.reader.specs.declared.state.State.{State}
+use Rattle.reader.specs.declared.judged.Part.{Part}
 use Rattle.reader.specs.declared.Reading.{Reading}
-use Rattle.state.specs.Limits.{THREADS, CELLS, DEPTH}
-use Rattle.fields.specs.Field.{next, and_then, count_judged}
-use Rattle.reader.specs.Case.{part_judged, front_judged, sizes_judged, sized_of, cells_of, programs_of, scheduled_of, refused_of, after, read_of}
-use Rattle.fields.proofs.Fields.{then_fine}
-use Rattle.fields.proofs.Counts.{Counted, count_fine}
+use Rattle.reader.specs.Limits.{THREADS, CELLS, DEPTH}
+use Rattle.reader.specs.Case.{next, and_then, part_judged, front_judged, count_judged, sizes_judged, sized_of, cells_of, programs_of, scheduled_of, refused_of, after, read_of}
+use Rattle.reader.proofs.Fields.{then_fine}
+use Rattle.reader.proofs.Turns.{Counted, count_fine}
 use Rattle.reader.proofs.Kept.{Kept, kept_all, kept_threads, cells_kept, programs_kept}
 
 pub record Sizes (s : List ℕ) : Type 0 where

@@ -7,19 +7,18 @@ use native.Mathlib.Decide.{ℕ_discrete}
 use lib.ListN.{length, get_or, set}
 use lib.Seq.{get_or-set_same, get_or-set_other}
 use borrow.Author.Tests.{eq-eqb}
-use Rattle.state.specs.declared.Instruction.{Instruction}
-use Rattle.state.specs.declared.State.{State}
-use Rattle.reader.specs.declared.part.Part.{Part}
-use Rattle.state.specs.Limits.{THREADS, INSTRUCTIONS}
-use Rattle.fields.specs.Bytes.{byte, instruction_at}
-use Rattle.fields.specs.Rules.{instruction_bytes, instruction_wrong}
-use Rattle.state.specs.State.{no_instruction, code_place, count_of, instruction_of}
+use Rattle.reader.specs.declared.state.Instruction.{Instruction}
+use Rattle.reader.specs.declared.state.State.{State}
+use Rattle.reader.specs.declared.judged.Part.{Part}
+use Rattle.reader.specs.Limits.{THREADS, INSTRUCTIONS}
+use Rattle.reader.specs.Bytes.{byte, instruction_at}
+use Rattle.reader.specs.Rules.{instruction_bytes, instruction_wrong}
+use Rattle.reader.specs.State.{no_instruction, code_place, count_of, instruction_of}
 use Rattle.reader.specs.Range.{ProgramIn}
-use Rattle.fields.specs.Field.{fine, count_judged}
-use Rattle.reader.specs.Case.{filled, part_judged, instruction_judged, with_instruction, instruction_into, instructions_of, with_count, program_into, programs_of}
-use Rattle.fields.proofs.Each.{turned, each_fine}
-use Rattle.fields.proofs.Fields.{refuses, field_right, pick_fine}
-use Rattle.fields.proofs.Counts.{count_fine}
+use Rattle.reader.specs.Case.{fine, filled, part_judged, count_judged, instruction_judged, with_instruction, instruction_into, instructions_of, with_count, program_into, programs_of}
+use Rattle.reader.proofs.Each.{turned, each_fine}
+use Rattle.reader.proofs.Fields.{refuses, field_right, pick_fine}
+use Rattle.reader.proofs.Turns.{count_fine}
 use Rattle.reader.proofs.Kept.{Kept, kept_count, kept_instruction}
 
 -- the cells of o, and the first n programs of m, are in range

@@ -8,16 +8,15 @@ use native.Mathlib.Decide.{ℕ_discrete}
 use lib.Dec.{leb}
 use lib.ListN.{length}
 use borrow.Author.Tests.{leb-true}
-use Rattle.fields.specs.declared.judged.Judged.{Judged}
-use Rattle.state.specs.Limits.{ITEMS}
-use Rattle.fields.specs.Bytes.{byte, pair_at}
-use Rattle.fields.specs.Rules.{item_fits}
+use Rattle.reader.specs.declared.judged.Judged.{Judged}
+use Rattle.reader.specs.Limits.{ITEMS}
+use Rattle.reader.specs.Bytes.{byte, pair_at}
+use Rattle.reader.specs.Rules.{item_fits}
 use Rattle.reader.specs.Range.{Scheduled}
-use Rattle.fields.specs.Field.{next, and_then, whole}
-use Rattle.fields.specs.Schedule.{itself, item_judged, items_judged, end_judged, item_count_judged, schedule_judged}
-use Rattle.fields.proofs.Each.{each_fine}
-use Rattle.fields.proofs.Fields.{refuses, need_fine, then_fine, whole_fine, field_there, field_right, field_next}
-use Rattle.fields.proofs.Counts.{item_count_there}
+use Rattle.reader.specs.Case.{next, and_then, whole, itself, item_judged, items_judged, end_judged, item_count_judged, schedule_judged}
+use Rattle.reader.proofs.Each.{each_fine}
+use Rattle.reader.proofs.Fields.{refuses, need_fine, then_fine, whole_fine, field_there, field_right, field_next}
+use Rattle.reader.proofs.Turns.{item_count_there}
 
 module _ (s : List ℕ) (threads p : ℕ) where
   -- i items from p on were read

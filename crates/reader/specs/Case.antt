@@ -1,18 +1,54 @@
 -- A case, field by field from the front. "Order: 1, 2, 3, then fields front to back." The first field that is not as it should be refuses it.
-use Rattle.std.specs.Prelude.{ℕ, ◌+◌, List, length, set, leb, eqb}
-use Rattle.fields.specs.declared.judged.Judged.{Judged}
-use Rattle.fields.specs.declared.bytes.Cell.{Cell}
-use Rattle.state.specs.declared.Instruction.{Instruction}
-use Rattle.state.specs.declared.State.{State}
-use Rattle.reader.specs.declared.part.Part.{Part}
+use Rattle.std.specs.Prelude.{ℕ, zero, suc, ◌+◌, ◌-◌, Bool, true, false, List, length, set, leb, eqb}
+use Rattle.reader.specs.declared.judged.Judged.{Judged}
+use Rattle.reader.specs.declared.bytes.Cell.{Cell}
+use Rattle.reader.specs.declared.state.Instruction.{Instruction}
+use Rattle.reader.specs.declared.state.State.{State}
+use Rattle.reader.specs.declared.judged.Part.{Part}
 use Rattle.reader.specs.declared.Reading.{Reading}
-use Rattle.state.specs.Limits.{THREADS, CELLS, DEPTH, INSTRUCTIONS}
-use Rattle.state.specs.State.{fresh_of, code_place, with_sizes, with_counts, with_code, with_memory, with_table}
-use Rattle.fields.specs.Bytes.{byte, pair_at, cell_at, instruction_at}
-use Rattle.state.specs.Pick.{pick}
-use Rattle.fields.specs.Rules.{cell_bytes, cell_wrong, instruction_bytes, instruction_wrong}
-use Rattle.fields.specs.Field.{next, fine, and_then, need, field, go_on, each, count_judged}
-use Rattle.fields.specs.Schedule.{schedule_judged}
+use Rattle.reader.specs.Limits.{THREADS, CELLS, DEPTH, INSTRUCTIONS, ITEMS}
+use Rattle.reader.specs.State.{fresh_of, code_place, with_sizes, with_counts, with_code, with_memory, with_table}
+use Rattle.reader.specs.Bytes.{byte, pair_at, cell_at, instruction_at}
+use Rattle.reader.specs.Rules.{pick, within, cell_bytes, cell_wrong, instruction_bytes, instruction_wrong, item_fits}
+
+-- a field is refused with a number at a place; or it is as it should be, and the next one begins at a place
+abbrev pub refuse : ℕ → ℕ → Judged
+refuse number p = record { place = p; number = number }
+
+abbrev pub next : ℕ → Judged
+next p = record { place = p; number = 0 }
+
+abbrev pub fine : Judged → Bool
+fine j = eqb j.number 0
+
+-- what is judged next, where nothing is wrong so far
+abbrev pub and_then : Judged → Judged → Judged
+and_then j k = pick (fine j) k j
+
+-- refuses with the number where the test fails
+abbrev pub need : Bool → ℕ → ℕ → Judged → Judged
+need ok number p rest = pick ok rest (refuse number p)
+
+-- a field of n bytes that is wholly there: the number at its first wrong byte, or on to the next field
+unfoldable pub verdict_of : ℕ → ℕ → ℕ → ℕ → Judged
+verdict_of n number p wrong = need (leb n wrong) number (p + wrong) (next (p + n))
+
+-- "a field not wholly there", else its verdict
+unfoldable pub field : List ℕ → ℕ → ℕ → ℕ → ℕ → Judged
+field s n number p wrong = need (leb n (length s - p)) 5 p (verdict_of n number p wrong)
+
+-- a field of n bytes that is judged as one
+abbrev pub whole : Bool → ℕ → ℕ
+whole ok n = pick ok n 0
+
+abbrev pub go_on : {A : Type 0} → Bool → (A → A) → A → A
+go_on true rest a = rest a
+go_on false rest a = a
+
+-- n fields in turn, the i-th of them first, until one refuses
+unfoldable pub each : {A : Type 0} → (A → Judged) → (ℕ → A → A) → ℕ → ℕ → A → A
+each judged f i zero a = a
+each judged f i (suc n) a = let b = f i a in go_on (fine (judged b)) (each judged f (suc i) n) b
 
 -- "fewer than 3 bytes", "version not 1", "length field differs from the bytes given"
 unfoldable pub front_judged : List ℕ → Judged
@@ -21,6 +57,10 @@ front_judged s =
     (need (eqb (byte s 0) 1) 2 0
     (need (eqb (pair_at s 1) (length s)) 3 1
     (next 3)))
+
+-- "a count outside its limits": a count of one byte
+unfoldable pub count_judged : List ℕ → ℕ → ℕ → ℕ → Judged
+count_judged s low high p = field s 1 4 p (whole (within low high (byte s p)) 1)
 
 -- "Then three bytes: threads, cells, depth."
 unfoldable pub sizes_judged : List ℕ → Judged
@@ -77,6 +117,28 @@ program_into s t a =
 
 unfoldable pub programs_of : List ℕ → Part → Part
 programs_of s a = each part_judged (program_into s) 0 a.state.threads a
+
+-- "Then two bytes, the schedule count, and a byte an item"
+unfoldable pub item_judged : List ℕ → ℕ → ℕ → Judged → Judged
+item_judged s threads k j = field s 1 8 j.place (whole (item_fits threads (byte s j.place)) 1)
+
+abbrev pub itself : Judged → Judged
+itself j = j
+
+unfoldable pub items_judged : List ℕ → ℕ → ℕ → ℕ → Judged
+items_judged s threads n p = each itself (item_judged s threads) 0 n (next p)
+
+-- "Leftover bytes come after the last item"
+abbrev pub end_judged : List ℕ → Judged → Judged
+end_judged s j = need (leb (length s) j.place) 5 j.place j
+
+unfoldable pub item_count_judged : List ℕ → ℕ → Judged
+item_count_judged s p = field s 2 4 p (whole (leb (pair_at s p) ITEMS) 2)
+
+unfoldable pub schedule_judged : List ℕ → ℕ → ℕ → Judged
+schedule_judged s threads p =
+    and_then (item_count_judged s p)
+    (let j = items_judged s threads (pair_at s p) (p + 2) in and_then j (end_judged s j))
 
 unfoldable pub refused_of : Judged → Reading
 refused_of j = record { number = j.number; place = j.place; state = fresh_of; start = 0; items = 0 }

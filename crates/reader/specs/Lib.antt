@@ -1,4 +1,10 @@
+pub mod Limits
+pub mod State
+pub mod Queue
+pub mod Drain
+pub mod Operations
+pub mod Rules
+pub mod Bytes
 pub mod Case
 pub mod Range
 pub mod Samples
-pub mod Size

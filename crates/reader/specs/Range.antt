@@ -1,11 +1,11 @@
 -- The reader's promise to the layers above: what a state in range is, and what a case that is not refused gives.
 use Rattle.std.specs.Prelude.{ℕ, ◌+◌, ◌*◌, ◌≤◌, ◌<◌, true, ◌≡◌, List, length, get_or}
-use Rattle.state.specs.declared.State.{State}
+use Rattle.reader.specs.declared.state.State.{State}
 use Rattle.reader.specs.declared.Reading.{Reading}
-use Rattle.state.specs.Limits.{THREADS, CELLS, REGISTERS, DEPTH, INSTRUCTIONS, ITEMS}
-use Rattle.state.specs.State.{no_pending, queue_of, position_of, count_of, instruction_of, owner_of, sharing_of, fresh_of}
-use Rattle.fields.specs.Rules.{instruction_bytes, instruction_wrong, item_fits}
-use Rattle.fields.specs.Bytes.{byte}
+use Rattle.reader.specs.Limits.{THREADS, CELLS, REGISTERS, DEPTH, INSTRUCTIONS, ITEMS}
+use Rattle.reader.specs.State.{no_pending, queue_of, position_of, count_of, instruction_of, owner_of, sharing_of, fresh_of}
+use Rattle.reader.specs.Rules.{instruction_bytes, instruction_wrong, item_fits}
+use Rattle.reader.specs.Bytes.{byte}
 
 -- "owner at most threads, unowned cells shared"; a sharing mark is one that a case could hold
 pub record CellIn (s : State) (c : ℕ) : Type 0 where

@@ -1,16 +1,14 @@
 -- Cases and how they are read: the smallest one, R1, and refusals of every number from 1 to 8, gathered as one list with one proved claim.
 use Rattle.std.specs.Prelude.{ℕ, List, [], ◌∷◌, ◌++◌, map, ◌≡◌, refl, take, set, pos, negsuc}
-use Rattle.fields.specs.declared.judged.Judged.{Judged}
-use Rattle.fields.specs.Operations.{uses_of}
-use Rattle.state.specs.State.{instruction_of, memory_of}
-use Rattle.fields.specs.Bytes.{value_at, cell_at, instruction_at}
-use Rattle.fields.specs.Rules.{within, cell_wrong, fits_of, bound_of, cell_fits, register_fits, value_fits, instruction_wrong, item_fits}
-use Rattle.fields.specs.Field.{refuse, verdict_of, field, each, count_judged}
-use Rattle.reader.specs.Case.{front_judged, sizes_judged, cell_judged, cell_into, cells_of, instruction_judged, instruction_into, instructions_of, program_into, programs_of, refused_of, scheduled_of, read_of}
-use Rattle.fields.specs.Schedule.{item_judged, items_judged, item_count_judged, schedule_judged}
+use Rattle.reader.specs.declared.judged.Judged.{Judged}
+use Rattle.reader.specs.Operations.{uses_of}
+use Rattle.reader.specs.State.{instruction_of, memory_of}
+use Rattle.reader.specs.Bytes.{value_at, cell_at, instruction_at}
+use Rattle.reader.specs.Rules.{within, cell_wrong, fits_of, bound_of, cell_fits, register_fits, value_fits, instruction_wrong, item_fits}
+use Rattle.reader.specs.Case.{refuse, verdict_of, field, each, front_judged, count_judged, sizes_judged, cell_judged, cell_into, cells_of, instruction_judged, instruction_into, instructions_of, program_into, programs_of, item_judged, items_judged, item_count_judged, schedule_judged, refused_of, scheduled_of, read_of}
 
 -- "Smallest case 15 bytes": one thread without instructions, one unowned shared cell, depth 1, no items
-unfoldable pub smallest : List ℕ
+pub smallest : List ℕ
 smallest = 1 ∷ 0 ∷ 15 ∷ 1 ∷ 1 ∷ 1 ∷ 0 ∷ 0 ∷ 0 ∷ 0 ∷ 0 ∷ 1 ∷ 0 ∷ 0 ∷ 0 ∷ []
 
 -- "R1 whole, bytes in hexadecimal (52 bytes)"

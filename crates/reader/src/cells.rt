@@ -1,11 +1,10 @@
 // The cell records of a case, read into memory and the ownership table.
 ghost use Rattle.std.specs.Prelude.{◌≡◌, ◌≤◌};
-ghost use Rattle.state.specs.Limits.{CELLS};
+ghost use Rattle.reader.specs.Limits.{CELLS};
 ghost use Rattle.reader.specs.Case.{cell_judged, cells_of};
 
-use crate::part::Part;
-use fields::judged::Judged;
-use fields::{bytes, judged, rules};
+use crate::judged::{Judged, Part};
+use crate::{bytes, judged, rules};
 
 fn cell(case: &[u8], threads: usize, at: usize) -> Judged
     ensures { result ≡ cell_judged case.now threads at }

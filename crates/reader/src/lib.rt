@@ -1,15 +1,18 @@
 // The lowest layer: what a case is, and from bytes to the state that it starts. Nothing here knows how a thread steps.
 ghost use Rattle.std.specs.Prelude.{◌≡◌, ◌+◌, ◌≤◌, length};
 ghost use Rattle.reader.specs.Case.{front_judged, sizes_judged, sized_of, refused_of, scheduled_of, read_of};
-ghost use Rattle.state.specs.Limits.{THREADS, CELLS};
+ghost use Rattle.reader.specs.Limits.{THREADS, CELLS};
 
+pub mod bytes;
 mod cells;
-mod part;
+mod judged;
+pub mod operations;
 mod programs;
+pub mod rules;
+mod schedule;
+pub mod state;
 
-use fields::judged::Judged;
-use fields::{bytes, judged, schedule};
-use part::Part;
+use judged::{Judged, Part};
 use state::State;
 
 // A case that was read: the number and the place of a refusal; or number 0, the state that the case starts, and where its schedule stands.

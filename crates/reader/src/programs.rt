@@ -1,12 +1,11 @@
 // The threads' programs, read into the state's code.
 ghost use Rattle.std.specs.Prelude.{◌≡◌, ◌≤◌, ◌<◌};
-ghost use Rattle.state.specs.Limits.{THREADS, INSTRUCTIONS};
+ghost use Rattle.reader.specs.Limits.{THREADS, INSTRUCTIONS};
 ghost use Rattle.reader.specs.Case.{instruction_judged, instructions_of, program_into, programs_of};
 
-use crate::part::Part;
-use fields::judged::Judged;
-use fields::{bytes, judged, rules};
-use state::State;
+use crate::judged::{Judged, Part};
+use crate::state::State;
+use crate::{bytes, judged, rules};
 
 fn instruction(case: &[u8], cells: usize, count: usize, at: usize) -> Judged
     requires { count ≤ INSTRUCTIONS }

@@ -7,4 +7,3 @@ pub mod Lengths
 pub mod Items
 pub mod Whole
 pub mod Smallest
-pub mod Coincide

@@ -4,8 +4,8 @@ use mathlib.Core.Path.{◌≡◌, refl, sym, ap, ◌∙◌}
 use mathlib.Core.List.{List, [], ◌∷◌, ◌++◌}
 use native.Mathlib.Omega.{arith}
 use native.Mathlib.Nat.{add-zero, zero-add}
-use lib.ListN.{length, take, drop, length-append}
-use lib.Seq.{sets, length-sets, sets-eq, take_at}
+use lib.ListN.{length, length-append}
+use lib.Seq.{sets, length-sets, sets-eq}
 use Rattle.report.specs.Puts.{Fitting, Puts, Fronts}
 
 sets_append : (s t out : List ℕ) (at : ℕ) → sets (sets out at s) (at + length s) t ≡ sets out at (s ++ t)
@@ -42,13 +42,3 @@ fronted {s} {out} {out'} {r} p h =
     let e : r ≡ length s = p.ends ∙ zero-add (length s) in
     let k : 0 + length s ≤ length out = omega arith in
     record { long = e; within = h; wrote = p.wrote ∙ sets-eq s out 0 k ∙ rw (e, zero-add) }
-
--- the bytes up to the number given back are the text, and nothing else
-pub front_taken : {text out out' : List ℕ} {r : ℕ} → Fronts text out r out' → take r out' ≡ text
-front_taken {text} {out} {out'} {r} p = rw p.wrote (take_at text (drop r out) r (sym p.long))
-
-pub front_within : {text out out' : List ℕ} {r : ℕ} → Fronts text out r out' → r ≤ length out'
-front_within {text} {out} {out'} {r} p =
-    let e = p.long in
-    let l = length-append text (drop r out) in
-    rw p.wrote (omega arith)

@@ -26,10 +26,9 @@ pub low_cast : (x : ℤ) → SFits w32 x → lt_z x (pos 0) ≡ true → T (non_
 low_cast (pos n) f t = let h : n < 0 = ltb-true n 0 t in absurd (omega arith)
 low_cast (negsuc n) f t = let h = f.sfits in rw (low n h) (tt, record { fits = omega arith })
 
--- and a small number more than that still fits
-pub low_more : (x : ℤ) {k : ℕ} → SFits w32 x → lt_z x (pos 0) ≡ true → k < 256 → Fits w64 (nat_abs (to_z w32 (4294967295 - of_z w32 x)) + k)
-low_more (pos n) f t b = let h : n < 0 = ltb-true n 0 t in absurd (omega arith)
-low_more (negsuc n) f t b = let h = f.sfits in rw (low n h) (record { fits = omega arith })
+pub low_more : (x : ℤ) → SFits w32 x → lt_z x (pos 0) ≡ true → Fits w64 (nat_abs (to_z w32 (4294967295 - of_z w32 x)) + 1)
+low_more (pos n) f t = let h : n < 0 = ltb-true n 0 t in absurd (omega arith)
+low_more (negsuc n) f t = let h = f.sfits in rw (low n h) (record { fits = omega arith })
 
 pub low_magnitude : (x : ℤ) → SFits w32 x → lt_z x (pos 0) ≡ true → nat_abs (to_z w32 (4294967295 - of_z w32 x)) + 1 ≡ nat_abs x
 low_magnitude (pos n) f t = let h : n < 0 = ltb-true n 0 t in absurd (omega arith)

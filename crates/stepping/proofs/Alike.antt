@@ -8,13 +8,12 @@ use lib.Dec.{eqb, leb}
 use lib.ListN.{get_or}
 use lib.IntN.{pos}
 use borrow.Author.Tests.{leb-true, leb-false}
-use Rattle.state.specs.declared.Pending.{Pending}
-use Rattle.state.specs.declared.Queue.{Queue}
-use Rattle.state.specs.declared.State.{State}
-use Rattle.state.specs.State.{no_pending, outside_queue, queue_of, position_of, count_of}
-use Rattle.state.specs.Drain.{drained_of}
-use Rattle.state.specs.Pick.{pick}
-use Rattle.fields.specs.Rules.{item_fits}
+use Rattle.reader.specs.declared.state.Pending.{Pending}
+use Rattle.reader.specs.declared.state.Queue.{Queue}
+use Rattle.reader.specs.declared.state.State.{State}
+use Rattle.reader.specs.State.{no_pending, outside_queue, queue_of, position_of, count_of}
+use Rattle.reader.specs.Drain.{drained_of}
+use Rattle.reader.specs.Rules.{pick, item_fits}
 use Rattle.reader.specs.Range.{InRange}
 use Rattle.machine.specs.Action.{Action, read, store, fence, swap, acquire, release, silent, end, current_of, next_of}
 use Rattle.machine.specs.Effect.{guard, blocked_of}
@@ -22,11 +21,12 @@ use Rattle.machine.specs.Run.{taken_of, unless}
 use Rattle.machine.specs.Step.{drain_step}
 use Rattle.machine.proofs.Take.{current_in, current_cell, next_end, drain_row, take_row}
 use Rattle.machine.proofs.InRange.{at_end_or, next_goes}
-use Rattle.discipline.specs.Table.{Held, held_of}
+use Rattle.discipline.specs.declared.table.Held.{Held}
+use Rattle.discipline.specs.Table.{held_of}
 use Rattle.discipline.specs.Elsewhere.{holds_of, holds, elsewhere_of}
 use Rattle.discipline.specs.Rules.{release_breaks, broken_of}
 use Rattle.discipline.specs.Step.{next_held, next_elsewhere, checked_take, checked_of}
-use Rattle.discipline.proofs.Numbers.{judged_as, take_number}
+use Rattle.discipline.proofs.Meaning.{judged_as, take_number}
 use Rattle.stepping.specs.declared.step.After.{After}
 use Rattle.stepping.specs.Step.{answered_of, stepped_of}
 use Rattle.stepping.specs.Beyond.{Alike}

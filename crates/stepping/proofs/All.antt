@@ -4,8 +4,8 @@ use mathlib.Core.Bool.{Bool, true, false}
 use mathlib.Core.Path.{◌≡◌, refl, ap, ◌∙◌}
 use native.Mathlib.Omega.{arith}
 use native.Mathlib.Decide.{ℕ_discrete}
-use Rattle.state.specs.Pick.{pick}
-use Rattle.fields.proofs.Tests.{false_true}
+use Rattle.reader.specs.Rules.{pick}
+use Rattle.reader.proofs.Tests.{false_true}
 use Rattle.stepping.specs.Range.{all_below}
 
 back : {n : ℕ} → 0 < n → n ≡ suc (n - 1)

@@ -3,9 +3,9 @@ use Prim.Native.Nat.{ℕ}
 use mathlib.Core.Bool.{Bool, true, false}
 use mathlib.Core.Path.{◌≡◌, refl, sym, subst}
 use borrow.Author.Tests.{eq-eqb, ne_eqb}
-use Rattle.state.specs.declared.State.{State}
-use Rattle.fields.specs.Rules.{item_fits}
-use Rattle.checker.specs.Check.{answer, thread_of}
+use Rattle.reader.specs.declared.state.State.{State}
+use Rattle.reader.specs.Rules.{item_fits}
+use Rattle.discipline.specs.Check.{answer, thread_of}
 use Rattle.discipline.specs.Step.{checked_of}
 use Rattle.stepping.specs.declared.step.After.{After}
 use Rattle.stepping.specs.Range.{in_range_of}

@@ -1,9 +1,9 @@
 -- Two results that the stepping call's contract allows for one state and one item are the same: the answer, and the whole state.
 use Prim.Native.Nat.{ℕ}
 use mathlib.Core.Path.{◌≡◌}
-use Rattle.state.specs.declared.State.{State}
-use Rattle.checker.specs.declared.Answer.{Answer}
-use Rattle.checker.proofs.Coincide.{same}
+use Rattle.reader.specs.declared.state.State.{State}
+use Rattle.discipline.specs.declared.check.Answer.{Answer}
+use Rattle.discipline.proofs.Coincide.{same}
 use Rattle.stepping.specs.declared.step.After.{After}
 use Rattle.stepping.specs.Step.{stepped_of, Steps}
 

@@ -6,13 +6,13 @@ use native.Mathlib.Omega.{arith}
 use native.Mathlib.Decide.{ℕ_discrete}
 use lib.Dec.{leb, ltb}
 use borrow.Author.Tests.{leb-true, ltb-true, le-leb, lt-ltb}
-use Rattle.state.specs.declared.State.{State}
-use Rattle.state.specs.Limits.{THREADS, CELLS, DEPTH}
-use Rattle.state.specs.State.{queue_of, count_of, owner_of, sharing_of}
-use Rattle.fields.specs.Rules.{within, cell_bytes, cell_wrong}
+use Rattle.reader.specs.declared.state.State.{State}
+use Rattle.reader.specs.Limits.{THREADS, CELLS, DEPTH}
+use Rattle.reader.specs.State.{queue_of, count_of, owner_of, sharing_of}
+use Rattle.reader.specs.Rules.{within, cell_bytes, cell_wrong}
 use Rattle.reader.specs.Range.{CellIn, ProgramIn, QueueIn, InRange}
-use Rattle.fields.proofs.Tests.{within_true}
-use Rattle.fields.proofs.Instructions.{checked}
+use Rattle.reader.proofs.Tests.{within_true}
+use Rattle.reader.proofs.Instructions.{checked}
 use Rattle.stepping.specs.Range.{all_below, pending_fits, queue_fits, sizes_fit, cell_fits, instruction_fits, program_fits, position_fits, thread_fits, in_range_of}
 use Rattle.stepping.proofs.Tests.{both, both_true, true_within}
 use Rattle.stepping.proofs.All.{all_true, true_all}

@@ -7,15 +7,15 @@ use lib.Dec.{eqb}
 use lib.ListN.{length, take, drop, replicate, length-replicate}
 use lib.Seq.{get_or-drop}
 use lib.IntN.{ℤ, pos}
-use Rattle.fields.specs.Bytes.{byte}
-use Rattle.state.specs.Pick.{pick}
+use Rattle.reader.specs.Bytes.{byte}
+use Rattle.reader.specs.Rules.{pick}
 use Rattle.reader.specs.Case.{read_of}
 use Rattle.reader.proofs.Accepted.{accepted}
 use Rattle.machine.specs.declared.outcome.Ran.{Ran}
 use Rattle.machine.specs.Run.{Answers}
 use Rattle.discipline.specs.Step.{checked_of}
-use Rattle.checker.specs.Check.{thread_of, schedule_of, Checks}
-use Rattle.checker.proofs.Checked.{runnable_read, items_read, checks_ran}
+use Rattle.discipline.specs.Check.{thread_of, schedule_of, Checks}
+use Rattle.discipline.proofs.Checked.{runnable_read, items_read, checks_ran}
 use Rattle.stepping.specs.Follow.{follow_case, AsRun}
 use Rattle.stepping.proofs.Follow.{followed}
 

@@ -1,24 +1,44 @@
 -- The definition of the stepping call says what the description says, for every state and every byte.
-use Prim.Native.Nat.{ℕ}
+use Prim.Native.Nat.{ℕ, ◌≤◌}
 use mathlib.Core.Bool.{Bool, true, false}
 use mathlib.Core.Path.{◌≡◌, refl, sym, ap, ◌∙◌}
 use native.Mathlib.Omega.{arith}
 use lib.Dec.{eqb}
 use borrow.Author.Tests.{eqb-true, eqb-false}
-use Rattle.state.specs.declared.State.{State}
-use Rattle.fields.specs.Rules.{item_fits}
+use Rattle.reader.specs.declared.state.State.{State}
+use Rattle.reader.specs.Rules.{item_fits}
 use Rattle.reader.specs.Range.{InRange}
-use Rattle.fields.proofs.Tests.{false_true}
+use Rattle.reader.proofs.Tests.{false_true}
 use Rattle.machine.specs.declared.outcome.Outcome.{Outcome}
-use Rattle.checker.specs.Check.{answer, thread_of}
+use Rattle.machine.specs.Action.{Action}
+use Rattle.discipline.specs.Check.{answer, thread_of}
+use Rattle.discipline.specs.Meaning.{Against, at_end, fence_waits, swap_waits, buffer_full, load_local, load_dirty, store_others, swap_others, acquire_owned, acquire_pending, release_others, release_waits, Stops, stops_take, stops_drain}
 use Rattle.discipline.specs.Step.{checked_of}
 use Rattle.discipline.proofs.One.{stays_checked}
 use Rattle.discipline.proofs.Meaning.{stopped_least, nothing_if_taken}
-use Rattle.discipline.proofs.Twenty.{stops_high}
 use Rattle.stepping.specs.Step.{kept_of, carried_of, stepped_of}
 use Rattle.stepping.specs.Said.{Said}
 use Rattle.stepping.proofs.Exact.{range_in, in_range}
 use Rattle.stepping.proofs.Cases.{answered_taken, answered_stopped, stepped_cases}
+
+-- no reason against an item has a number below 20, so 8 and 10 are never its number
+against_high : {s : State} {t : ℕ} (a : Action) (n : ℕ) → Against s t a n → 20 ≤ n
+against_high a n at_end = omega arith
+against_high a n (fence_waits e) = omega arith
+against_high a n (swap_waits e) = omega arith
+against_high a n (buffer_full e) = omega arith
+against_high a n (load_local e f) = omega arith
+against_high a n (load_dirty e f g) = omega arith
+against_high a n (store_others e) = omega arith
+against_high a n (swap_others e) = omega arith
+against_high a n (acquire_owned e) = omega arith
+against_high a n (acquire_pending e) = omega arith
+against_high a n (release_others e) = omega arith
+against_high a n (release_waits e) = omega arith
+
+stops_high : {s : State} {x : ℕ} (n : ℕ) → Stops s x n → 20 ≤ n
+stops_high n (stops_take h a) = against_high _ n a
+stops_high n (stops_drain h e) = omega arith
 
 module _ (s : State) (x : ℕ) where
   -- 10
@@ -72,7 +92,7 @@ module _ (s : State) (x : ℕ) where
         eight = λ e. absurd (omega arith);
         as_above = λ h k. sym z;
         least = λ h k n. absurd (n refl);
-        unopposed = λ e. nothing_if_taken g x f z;
+        unopposed = λ e. nothing_if_taken s x z;
         keeps = λ n. absurd (n refl);
         steps = λ e. refl;
         taken = λ e. refl;
@@ -86,9 +106,8 @@ module _ (s : State) (x : ℕ) where
       -- an item that is stopped
       said_stopped : ((checked_of s x).number ≡ 0 → ⊥) → Said s x (record { answer = answer (checked_of s x).number 0 (thread_of x); state = (checked_of s x).state })
       said_stopped n =
-          let l = stopped_least g x f n in
-          -- so 8 and 10 are never its number
-          let high = stops_high l.stands in
+          let l = stopped_least s x n in
+          let high : 20 ≤ (checked_of s x).number = stops_high _ l.stands in
           record {
             out_of_range = λ o. absurd (o g);
             ten = λ e. absurd (omega arith);

@@ -10,13 +10,13 @@ use denote.Laws.{Is}
 use denote.Array.{each}
 use denote.Struct.Field.{Field}
 use denote.Struct.Declared.{field}
-use Rattle.state.specs.declared.Queue.{Queue}
-use Rattle.state.specs.declared.State.{State}
-use Rattle.state.specs.Limits.{DEPTH}
-use Rattle.state.specs.State.{outside_queue}
+use Rattle.reader.specs.declared.state.Queue.{Queue}
+use Rattle.reader.specs.declared.state.State.{State}
+use Rattle.reader.specs.Limits.{DEPTH}
+use Rattle.reader.specs.State.{outside_queue}
 use Rattle.reader.specs.Range.{Shaped}
-use Rattle.state.specs.contracts.Queue as Q
-use Rattle.state.specs.contracts.State as T
+use Rattle.reader.specs.contracts.state.Queue as Q
+use Rattle.reader.specs.contracts.state.State as T
 
 -- what each element of an array says of itself, by its place
 module _ (F : Field) (d : F.Value) (P : F.Value → Type 0) (says : (x : F.Value) (u : Val) → Is F.row (F.into x) (u ∷ []) → P x) where

@@ -5,13 +5,12 @@ use mathlib.Core.Path.{◌≡◌, refl, sym, ap, ◌∙◌}
 use native.Mathlib.Omega.{arith}
 use lib.IntN.{pos}
 use borrow.Author.Tests.{le-leb, lt-leb}
-use Rattle.state.specs.declared.State.{State}
-use Rattle.state.specs.State.{position_of, count_of, register_of}
-use Rattle.state.specs.Pick.{pick}
-use Rattle.fields.specs.Rules.{item_fits}
+use Rattle.reader.specs.declared.state.State.{State}
+use Rattle.reader.specs.State.{position_of, count_of, register_of}
+use Rattle.reader.specs.Rules.{pick, item_fits}
 use Rattle.machine.specs.declared.outcome.Outcome.{Outcome}
 use Rattle.machine.specs.declared.effect.Seen.{Seen}
-use Rattle.state.specs.declared.Queue.{Queue}
+use Rattle.reader.specs.declared.state.Queue.{Queue}
 use Rattle.machine.specs.Action.{Action, read, store, fence, swap, acquire, release, silent, end, current_of, next_of}
 use Rattle.machine.specs.Effect.{effect_of, took_of}
 use Rattle.machine.specs.Step.{next_effect}
@@ -55,18 +54,18 @@ shown_drain : (s m : State) (x : ℕ) → 17 ≤ x → shown_of s x m ≡ pos 0
 unfolding shown_of
 shown_drain s m x h = rw (le-leb 17 x h)
 
-shown_take : (s m : State) (t : ℕ) → t < 16 → shown_of s (t + 1) m ≡ pick (reads (next_of s t)) (register_of m t (current_of s t).register) (pos 0)
+shown_take : (s m : State) (t : ℕ) → t < 16 → shown_of s (1 + t) m ≡ pick (reads (next_of s t)) (register_of m t (current_of s t).register) (pos 0)
 unfolding shown_of
 shown_take s m t h =
-    let b : t + 1 < 17 = omega arith in
-    let e : t + 1 - 1 ≡ t = omega arith in
-    rw (lt-leb 17 (t + 1) b, e) refl
+    let b : 1 + t < 17 = omega arith in
+    let e : 1 + t - 1 ≡ t = omega arith in
+    rw (lt-leb 17 (1 + t) b, e) refl
 
 module _ {s : State} (g : Runnable s) where
-  drain_shows : (t : ℕ) → (checked_of s (t + 17)).number ≡ 0 → shown_of s (t + 17) (checked_of s (t + 17)).state ≡ (checked_of s (t + 17)).value
-  drain_shows t z = shown_drain s (checked_of s (t + 17)).state (t + 17) (omega arith) ∙ sym (ap (λ (o : Outcome). o.value) (drain_taken s t z))
+  drain_shows : (t : ℕ) → (checked_of s (17 + t)).number ≡ 0 → shown_of s (17 + t) (checked_of s (17 + t)).state ≡ (checked_of s (17 + t)).value
+  drain_shows t z = shown_drain s (checked_of s (17 + t)).state (17 + t) (omega arith) ∙ sym (ap (λ (o : Outcome). o.value) (drain_taken s t z))
 
-  take_shows : {t : ℕ} → t < s.threads → (checked_of s (t + 1)).number ≡ 0 → shown_of s (t + 1) (checked_of s (t + 1)).state ≡ (checked_of s (t + 1)).value
+  take_shows : {t : ℕ} → t < s.threads → (checked_of s (1 + t)).number ≡ 0 → shown_of s (1 + t) (checked_of s (1 + t)).state ≡ (checked_of s (1 + t)).value
   take_shows {t} h z =
       let n = g.in_range.threads in
       let b : t < 16 = omega arith in

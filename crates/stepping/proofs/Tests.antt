@@ -4,8 +4,8 @@ use mathlib.Core.Bool.{Bool, true, false, ◌&&◌}
 use mathlib.Core.Path.{◌≡◌, refl}
 use lib.Dec.{leb}
 use borrow.Author.Tests.{le-leb, lt-leb}
-use Rattle.fields.specs.Rules.{within}
-use Rattle.fields.proofs.Tests.{false_true}
+use Rattle.reader.specs.Rules.{within}
+use Rattle.reader.proofs.Tests.{false_true}
 
 -- a record of so many bytes, first wrong at a place before its end, or not
 pub short : {place wrong bytes : ℕ} → place ≡ wrong → place < bytes → leb bytes wrong ≡ false

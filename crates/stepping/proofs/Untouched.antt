@@ -10,15 +10,15 @@ use lib.ListN.{length, take, drop, get_or, set}
 use lib.Seq.{get_or-set_other}
 use lib.IntN.{pos}
 use borrow.Author.Tests.{eqb-true, eqb-false}
-use Rattle.state.specs.declared.Pending.{Pending}
-use Rattle.state.specs.declared.Queue.{Queue}
-use Rattle.state.specs.declared.Instruction.{Instruction}
-use Rattle.state.specs.declared.State.{State}
-use Rattle.state.specs.Limits.{REGISTERS}
-use Rattle.state.specs.State.{no_pending, outside_queue, queue_of, register_place}
-use Rattle.state.specs.Queue.{shifted, popped_of}
-use Rattle.state.specs.Drain.{oldest_of, drained_of}
-use Rattle.fields.specs.Rules.{item_fits}
+use Rattle.reader.specs.declared.state.Pending.{Pending}
+use Rattle.reader.specs.declared.state.Queue.{Queue}
+use Rattle.reader.specs.declared.state.Instruction.{Instruction}
+use Rattle.reader.specs.declared.state.State.{State}
+use Rattle.reader.specs.Limits.{REGISTERS}
+use Rattle.reader.specs.State.{no_pending, outside_queue, queue_of, register_place}
+use Rattle.reader.specs.Queue.{shifted, popped_of}
+use Rattle.reader.specs.Drain.{oldest_of, drained_of}
+use Rattle.reader.specs.Rules.{item_fits}
 use Rattle.reader.specs.Range.{Shaped}
 use Rattle.machine.specs.declared.effect.Effect.{Effect}
 use Rattle.machine.specs.Action.{current_of}
@@ -27,7 +27,8 @@ use Rattle.machine.specs.Effect.{cell_of, took_of}
 use Rattle.machine.specs.Step.{next_effect}
 use Rattle.machine.proofs.Kept.{all_set}
 use Rattle.machine.proofs.Take.{by_kind, current_in, current_cell, row_below, row_few}
-use Rattle.discipline.specs.Table.{Held, holding_of}
+use Rattle.discipline.specs.declared.table.Held.{Held}
+use Rattle.discipline.specs.Table.{holding_of}
 use Rattle.discipline.specs.Run.{Runnable}
 use Rattle.discipline.specs.Step.{next_marks, checked_of}
 use Rattle.discipline.proofs.One.{stays_checked}
@@ -120,10 +121,10 @@ module _ {s : State} (g : Runnable s) {t : ℕ} (h : t < s.threads) where
   }
 
 module _ {s : State} (g : Runnable s) where
-  drain_untouched : {t : ℕ} → t < s.threads → (checked_of s (t + 17)).number ≡ 0 → Untouched s (checked_of s (t + 17)).state
+  drain_untouched : {t : ℕ} → t < s.threads → (checked_of s (17 + t)).number ≡ 0 → Untouched s (checked_of s (17 + t)).state
   drain_untouched {t} h z = rw (drain_taken s t z) (drained_untouched g h (pending_there s t z))
 
-  take_untouched : {t : ℕ} → t < s.threads → (checked_of s (t + 1)).number ≡ 0 → Untouched s (checked_of s (t + 1)).state
+  take_untouched : {t : ℕ} → t < s.threads → (checked_of s (1 + t)).number ≡ 0 → Untouched s (checked_of s (1 + t)).state
   take_untouched {t} h z =
       let n = g.in_range.threads in
       let b : t < 16 = omega arith in

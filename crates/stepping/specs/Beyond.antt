@@ -1,9 +1,9 @@
 -- "Places beyond the counts are neither judged nor changed": what a state holds within its counts, and what stands beyond them.
 use Rattle.std.specs.Prelude.{ℕ, ◌*◌, ◌≤◌, ◌<◌, ◌≡◌, get_or, pos}
-use Rattle.state.specs.declared.Pending.{Pending}
-use Rattle.state.specs.declared.State.{State}
-use Rattle.state.specs.Limits.{REGISTERS}
-use Rattle.state.specs.State.{no_pending, queue_of, position_of, count_of, dirty_of, instruction_of, register_of, memory_of, owner_of, sharing_of}
+use Rattle.reader.specs.declared.state.Pending.{Pending}
+use Rattle.reader.specs.declared.state.State.{State}
+use Rattle.reader.specs.Limits.{REGISTERS}
+use Rattle.reader.specs.State.{no_pending, queue_of, position_of, count_of, dirty_of, instruction_of, register_of, memory_of, owner_of, sharing_of}
 
 abbrev pub entry_of : State → ℕ → ℕ → Pending
 entry_of s t k = get_or (queue_of s t).entries k no_pending

@@ -1,13 +1,13 @@
 -- Stepping through a schedule, as a debugger does it: item by item on one lent state, until a number is not 0. What it has then seen.
 use Rattle.std.specs.Prelude.{ℕ, ◌+◌, ◌-◌, List, [], ◌∷◌, ◌≡◌, eqb, leb, ℤ, pos, get_or}
-use Rattle.state.specs.declared.State.{State}
-use Rattle.state.specs.State.{register_of}
-use Rattle.state.specs.Pick.{pick}
+use Rattle.reader.specs.declared.state.State.{State}
+use Rattle.reader.specs.State.{register_of}
+use Rattle.reader.specs.Rules.{pick}
 use Rattle.reader.specs.Case.{read_of}
 use Rattle.machine.specs.Action.{current_of, next_of}
 use Rattle.machine.specs.Run.{run_of, values_of}
-use Rattle.checker.specs.declared.Answer.{Answer}
-use Rattle.checker.specs.Check.{answer, thread_of, schedule_of}
+use Rattle.discipline.specs.declared.check.Answer.{Answer}
+use Rattle.discipline.specs.Check.{answer, thread_of, schedule_of}
 use Rattle.discipline.specs.OneMemory.{reads}
 use Rattle.discipline.specs.Step.{checked_of}
 use Rattle.stepping.specs.declared.step.After.{After}

@@ -1,12 +1,11 @@
 -- In range, as a test that computes: what the stepping call asks of a state before it does anything. That it is the reader's promise `InRange`, no
 -- more and no less, is proved in proofs/Exact.antt. "Places beyond the counts are neither judged nor changed": nothing here looks at them.
 use Rattle.std.specs.Prelude.{ℕ, zero, suc, Bool, true, false, ◌&&◌, leb, ltb, get_or}
-use Rattle.state.specs.declared.Queue.{Queue}
-use Rattle.state.specs.declared.State.{State}
-use Rattle.state.specs.Limits.{THREADS, CELLS, DEPTH, INSTRUCTIONS}
-use Rattle.state.specs.State.{no_pending, queue_of, position_of, count_of, instruction_of, owner_of, sharing_of}
-use Rattle.state.specs.Pick.{pick}
-use Rattle.fields.specs.Rules.{within, cell_bytes, cell_wrong, instruction_bytes, instruction_wrong}
+use Rattle.reader.specs.declared.state.Queue.{Queue}
+use Rattle.reader.specs.declared.state.State.{State}
+use Rattle.reader.specs.Limits.{THREADS, CELLS, DEPTH, INSTRUCTIONS}
+use Rattle.reader.specs.State.{no_pending, queue_of, position_of, count_of, instruction_of, owner_of, sharing_of}
+use Rattle.reader.specs.Rules.{pick, within, cell_bytes, cell_wrong, instruction_bytes, instruction_wrong}
 
 -- whether every number below n passes a test, from the last back
 unfoldable pub all_below : (ℕ → Bool) → ℕ → Bool

@@ -1,9 +1,9 @@
 -- What the description says of the stepping call, sentence by sentence, apart from the definition that computes its answer.
 use Rattle.std.specs.Prelude.{ℕ, true, false, ◌≡◌}
-use Rattle.state.specs.declared.State.{State}
-use Rattle.fields.specs.Rules.{item_fits}
+use Rattle.reader.specs.declared.state.State.{State}
+use Rattle.reader.specs.Rules.{item_fits}
 use Rattle.reader.specs.Range.{InRange}
-use Rattle.checker.specs.Check.{thread_of}
+use Rattle.discipline.specs.Check.{thread_of}
 use Rattle.discipline.specs.Meaning.{Stops, Least}
 use Rattle.discipline.specs.Step.{checked_of}
 use Rattle.stepping.specs.declared.step.After.{After}

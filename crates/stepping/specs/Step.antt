@@ -1,11 +1,10 @@
 -- The stepping call: what it answers and what it leaves of the lent state, for every state whatsoever and every item byte.
 use Rattle.std.specs.Prelude.{ℕ, Bool, ◌≡◌, eqb}
-use Rattle.state.specs.declared.State.{State}
-use Rattle.state.specs.Pick.{pick}
-use Rattle.fields.specs.Rules.{item_fits}
+use Rattle.reader.specs.declared.state.State.{State}
+use Rattle.reader.specs.Rules.{pick, item_fits}
 use Rattle.machine.specs.declared.outcome.Outcome.{Outcome}
-use Rattle.checker.specs.declared.Answer.{Answer}
-use Rattle.checker.specs.Check.{answer, thread_of}
+use Rattle.discipline.specs.declared.check.Answer.{Answer}
+use Rattle.discipline.specs.Check.{answer, thread_of}
 use Rattle.discipline.specs.Step.{checked_of}
 use Rattle.stepping.specs.declared.step.After.{After}
 use Rattle.stepping.specs.Range.{in_range_of}

@@ -1,11 +1,11 @@
 // Whether a state is in range: the limits first, so that all that is looked at after them is there. Places beyond the counts are not looked at.
 ghost use Rattle.std.specs.Prelude.{◌≡◌, ◌<◌, ◌≤◌};
-ghost use Rattle.state.specs.Limits.{THREADS, CELLS, DEPTH};
+ghost use Rattle.reader.specs.Limits.{THREADS, CELLS, DEPTH};
 ghost use Rattle.stepping.specs.Range.{all_below, queue_fits, sizes_fit, cell_fits, program_fits, thread_fits, in_range_of};
 
-use fields::rules;
 use machine::effect;
-use state::{Queue, State};
+use reader::rules;
+use reader::state::{Queue, State};
 
 // The number of threads, of cells, and the depth.
 fn sizes_fit(s: State) -> bool

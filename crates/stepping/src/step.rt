@@ -2,10 +2,11 @@
 ghost use Rattle.std.specs.Prelude.{◌≡◌};
 ghost use Rattle.stepping.specs.Step.{kept_of, answered_of, stepped_of};
 
-use crate::{item, range};
-use checker::Answer;
-use fields::rules;
-use state::State;
+use crate::range;
+use discipline::check::Answer;
+use discipline::{check, step};
+use reader::rules;
+use reader::state::State;
 
 // The answer, and the state after the call: the one that was lent, unless the number is 0.
 #[derive(Drop)]
@@ -43,7 +44,7 @@ fn answered(number: u32, item: u8) -> Answer
     Answer {
         place: 0,
         number: number,
-        thread: checker::thread(item),
+        thread: check::thread(item),
     }
 }
 
@@ -56,7 +57,7 @@ pub fn stepped(s: State, item: u8) -> After
     if !rules::item_fits(s.threads, item as usize) {
         return kept(s, 8);
     }
-    let o = item::stepped(s, item);
+    let o = step::stepped(s, item);
     let state = o.state;
     let answer = answered(o.number, item);
     After {

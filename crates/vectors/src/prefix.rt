@@ -1,6 +1,6 @@
 // The length in front of a case of a bundle, and how much of a case is looked at.
 ghost use Rattle.std.specs.Prelude.{◌≡◌, min};
-ghost use Rattle.fields.specs.Bytes.{word_of};
+ghost use Rattle.reader.specs.Bytes.{word_of};
 ghost use Rattle.vectors.specs.Prefix.{length_of, seen_of};
 
 fn word(a: u8, b: u8, c: u8, d: u8) -> usize
@@ -24,5 +24,5 @@ pub fn least(a: usize, b: usize) -> usize
 pub fn seen(length: usize) -> usize
     ensures { result ≡ seen_of length }
 {
-    least(length, judge::INPUT_BYTES)
+    least(length, 65536)
 }

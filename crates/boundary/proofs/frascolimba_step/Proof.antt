@@ -39,13 +39,13 @@ use denote.Triple.Walked.{says, Stays, stay_ref, stay_none, walk_of, AllGo, Goes
 use denote.Triple.Clauses.{ensured, lasts}
 use denote.Exit.{yes}
 use Rattle.stepping.specs.Step.{stepped_of, Steps}
-use Rattle.state.specs.declared.State.{State}
-use Rattle.checker.specs.declared.Answer.{Answer}
+use Rattle.reader.specs.declared.state.State.{State}
+use Rattle.discipline.specs.declared.check.Answer.{Answer}
 use Rattle.stepping.specs.declared.step.After.{After}
-use Rattle.state.specs.contracts.State as T
-use Rattle.state.proofs.State.TheLaws as T'
-use Rattle.checker.specs.contracts.Answer as N
-use Rattle.checker.proofs.Answer.TheLaws as N'
+use Rattle.reader.specs.contracts.state.State as T
+use Rattle.reader.proofs.state.State.TheLaws as T'
+use Rattle.discipline.specs.contracts.check.Answer as N
+use Rattle.discipline.proofs.check.Answer.TheLaws as N'
 use Rattle.stepping.specs.contracts.step.After as O
 use Rattle.stepping.proofs.step.After.TheLaws as O'
 use Rattle.stepping.specs.contracts.step.stepped as g

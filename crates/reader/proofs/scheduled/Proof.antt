@@ -2,7 +2,7 @@
 use Rattle.reader.specs.Case.{scheduled_of}
 use mathlib.Core.Path.{sym}
 use borrow.Author.Tests.{eq-eqb, ne_eqb}
-use Rattle.fields.proofs.Counts.{schedule_there}
+use Rattle.reader.proofs.Turns.{schedule_there}
 use native.Mathlib.Omega.{arith}
 use borrow.Author.Rules.{rules}
 use Rattle.reader.proofs.scheduled.Statement.{statement}

@@ -1,7 +1,7 @@
 -- The entries passed so far are to other cells.
 use Rattle.std.proofs.Common.{◌≡◌, ◌-◌, ◌≤◌, get_or, ℤ, sym, refl, ap, ◌∙◌, arith, to_z-of_z, w32, to_z, of_z, rules}
-use Rattle.state.specs.Limits.{DEPTH}
-use Rattle.state.specs.State.{no_pending}
+use Rattle.reader.specs.Limits.{DEPTH}
+use Rattle.reader.specs.State.{no_pending}
 use Rattle.machine.specs.Buffer.{newest_of}
 use Rattle.machine.proofs.Newest.{newest_hit, newest_pass}
 use Rattle.machine.proofs.buffer.newest.Statement.{statement}

@@ -17,7 +17,7 @@ returns c =
     let zw : to_z w32 (of_z w32 a.v.word) ≡ a.v.word = search rules in
     let zc : to_z w32 (of_z w32 a.v.content) ≡ a.v.content = search rules in
     let zi : to_z w32 (of_z w32 a.i.value) ≡ a.i.value = search rules in
-    simp (c.before.before.before.before.before.before.before.quiet.ensures, c.value-if.ensures, zw, zc, zi)
+    rw (c.before.before.before.before.before.before.before.quiet.ensures, c.value-if.ensures, zw, zc, zi)
 
 pub compare-swap-spec : {M : Type 1} → statement M
 compare-swap-spec = tie.close (tie.spec quiet-requires value-if-requires returns)

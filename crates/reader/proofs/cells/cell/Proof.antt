@@ -1,6 +1,6 @@
 -- A field that is not wholly there, or its verdict.
 use Rattle.reader.specs.Case.{cell_judged}
-use Rattle.fields.proofs.Fields.{field_short, field_whole}
+use Rattle.reader.proofs.Fields.{field_short, field_whole}
 use borrow.Author.Rules.{rules}
 use Rattle.reader.proofs.cells.cell.Statement.{statement}
 use Rattle.reader.proofs.cells.cell.Tie as tie

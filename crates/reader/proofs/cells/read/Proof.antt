@@ -4,7 +4,7 @@ use Prim.Native.Nat.{◌-◌}
 use mathlib.Core.Path.{◌≡◌}
 use mir.Val.{to_z, of_z}
 use mir.Syntax.{w32}
-use Rattle.fields.proofs.Each.{Going, start, turn, stopped, ended}
+use Rattle.reader.proofs.Each.{Going, start, turn, stopped, ended}
 use Rattle.reader.proofs.Turns.{cell_there, cell_on, cell_off}
 use borrow.Author.Rules.{rules}
 use native.Mathlib.Omega.{arith}

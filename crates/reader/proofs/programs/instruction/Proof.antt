@@ -1,7 +1,6 @@
 -- A field that is not wholly there, or its verdict.
 use Rattle.reader.specs.Case.{instruction_judged}
-use Rattle.fields.proofs.Fields.{field_short, field_whole}
-use native.Mathlib.Omega.{arith}
+use Rattle.reader.proofs.Fields.{field_short, field_whole}
 use borrow.Author.Rules.{rules}
 use Rattle.reader.proofs.programs.instruction.Statement.{statement}
 use Rattle.reader.proofs.programs.instruction.Tie as tie
@@ -14,7 +13,7 @@ missing-requires c κs = search rules
 
 returns : tie.Need-returns
 unfolding instruction_judged
-returns c = let h = c.before.if1.true in field_short _ _ _ _ _ c.before.before.left.ensures (omega arith) c.missing.ensures
+returns c = field_short _ _ _ _ _ c.before.before.left.ensures c.before.if1.true c.missing.ensures
 
 instruction-at-requires : tie.Need-instruction-at-requires
 instruction-at-requires c κs = search rules

@@ -1,7 +1,7 @@
 -- Each turn takes one instruction; the loop changes the state in place.
 use Rattle.reader.specs.Case.{part_judged, instruction_into, instructions_of}
 use Prim.Native.Nat.{◌-◌}
-use Rattle.fields.proofs.Each.{Going, start, turn, stopped, ended}
+use Rattle.reader.proofs.Each.{Going, start, turn, stopped, ended}
 use Rattle.reader.proofs.Turns.{instruction_there, instruction_on, instruction_off}
 use native.Mathlib.Omega.{arith}
 use Rattle.reader.proofs.programs.instructions.Statement.{statement}

@@ -1,7 +1,6 @@
 -- The count is refused, or its instructions are read.
 use mathlib.Core.Path.{◌∙◌}
-use Rattle.fields.proofs.Counts.{count_fine}
-use Rattle.reader.proofs.Turns.{program_on, program_off}
+use Rattle.reader.proofs.Turns.{count_fine, program_on, program_off}
 use native.Mathlib.Omega.{arith}
 use borrow.Author.Rules.{rules}
 use Rattle.reader.proofs.programs.program.Statement.{statement}

@@ -1,7 +1,7 @@
 -- Each turn takes one program.
 use Rattle.reader.specs.Case.{part_judged, program_into, programs_of}
 use Prim.Native.Nat.{◌-◌}
-use Rattle.fields.proofs.Each.{Going, start, turn, stopped, ended}
+use Rattle.reader.proofs.Each.{Going, start, turn, stopped, ended}
 use native.Mathlib.Omega.{arith}
 use Rattle.reader.proofs.programs.read.Statement.{statement}
 use Rattle.reader.proofs.programs.read.Tie as tie

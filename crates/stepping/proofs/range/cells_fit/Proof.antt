@@ -4,7 +4,7 @@ use Prim.Native.Nat.{◌≤◌}
 use mathlib.Core.Path.{◌≡◌, refl, sym, ◌∙◌}
 use native.Mathlib.Omega.{arith}
 use borrow.Author.Rules.{rules}
-use Rattle.state.specs.Limits.{CELLS}
+use Rattle.reader.specs.Limits.{CELLS}
 use Rattle.stepping.specs.Range.{all_below, cell_fits}
 use Rattle.stepping.proofs.All.{all_none, all_fails, all_passes}
 use Rattle.stepping.proofs.range.cells_fit.Statement.{statement}

@@ -1,5 +1,5 @@
 -- Each return by the tests that led to it; the limits hold where the other tests are made.
-use Rattle.fields.proofs.Tests.{passed, failed}
+use Rattle.reader.proofs.Tests.{passed, failed}
 use Rattle.stepping.specs.Range.{in_range_of}
 use Rattle.stepping.proofs.Exact.{sizes_in}
 use borrow.Author.Rules.{rules}

@@ -5,7 +5,7 @@ use mathlib.Core.Path.{◌≡◌, refl, ◌∙◌}
 use native.Mathlib.Omega.{arith}
 use borrow.Author.Rules.{rules}
 use borrow.Author.Tests.{lt-leb, le-leb}
-use Rattle.state.specs.Limits.{INSTRUCTIONS}
+use Rattle.reader.specs.Limits.{INSTRUCTIONS}
 use Rattle.stepping.specs.Range.{all_below, instruction_fits, program_fits}
 use Rattle.stepping.proofs.All.{all_none, all_fails, all_passes}
 use Rattle.stepping.proofs.range.program_fits.Statement.{statement}

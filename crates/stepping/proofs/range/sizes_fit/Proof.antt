@@ -1,5 +1,5 @@
 -- Each return by the tests that led to it.
-use Rattle.fields.proofs.Tests.{passed, failed}
+use Rattle.reader.proofs.Tests.{passed, failed}
 use Rattle.stepping.specs.Range.{sizes_fit}
 use borrow.Author.Rules.{rules}
 use Rattle.stepping.proofs.range.sizes_fit.Statement.{statement}

@@ -3,7 +3,7 @@ use Prim.Native.Nat.{◌≤◌}
 use mathlib.Core.Path.{◌≡◌, refl, sym, ◌∙◌}
 use native.Mathlib.Omega.{arith}
 use borrow.Author.Rules.{rules}
-use Rattle.fields.proofs.Tests.{passed, failed}
+use Rattle.reader.proofs.Tests.{passed, failed}
 use Rattle.stepping.specs.Range.{all_below, thread_fits}
 use Rattle.stepping.proofs.All.{all_none, all_fails, all_passes}
 use Rattle.stepping.proofs.range.threads_fit.Statement.{statement}

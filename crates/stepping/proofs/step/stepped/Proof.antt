@@ -1,5 +1,5 @@
 -- Each return by the tests that led to it.
-use Rattle.fields.proofs.Tests.{passed, failed}
+use Rattle.reader.proofs.Tests.{passed, failed}
 use Rattle.stepping.specs.Step.{stepped_of}
 use Rattle.stepping.proofs.Exact.{range_in}
 use Rattle.stepping.proofs.Shape.{shaped}

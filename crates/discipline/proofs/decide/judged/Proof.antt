@@ -1,0 +1,13 @@
+-- By the test.
+use borrow.Author.Tests.{eq-eqb, ne_eqb}
+use Rattle.discipline.proofs.decide.judged.Statement.{statement}
+use Rattle.discipline.proofs.decide.judged.Tie as tie
+
+returns : tie.Need-returns
+returns c = rw (eq-eqb _ _ c.if1.true)
+
+returns-2 : tie.Need-returns-2
+returns-2 c = rw (ne_eqb _ _ c.if1.false)
+
+pub judged-spec : {M : Type 1} → statement M
+judged-spec = tie.close (tie.spec returns returns-2)

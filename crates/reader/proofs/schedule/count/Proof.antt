@@ -1,0 +1,53 @@
+-- A field that is not wholly there, or its verdict.
+use Rattle.reader.specs.Case.{item_count_judged}
+use Rattle.reader.proofs.Fields.{field_short, field_whole}
+use borrow.Author.Rules.{rules}
+use Rattle.reader.proofs.schedule.count.Statement.{statement}
+use Rattle.reader.proofs.schedule.count.Tie as tie
+
+left-requires : tie.Need-left-requires
+left-requires c κs = search rules
+
+missing-requires : tie.Need-missing-requires
+missing-requires c κs = search rules
+
+returns : tie.Need-returns
+unfolding item_count_judged
+returns c = field_short _ _ _ _ _ c.before.before.left.ensures c.before.if1.true c.missing.ensures
+
+shared-slice-read-pair : tie.Need-shared-slice-read-pair
+shared-slice-read-pair c = search rules
+
+add-pair : tie.Need-overflow-add-pair
+add-pair c = search rules
+
+shared-slice-read-pair-2 : tie.Need-shared-slice-read-pair-2
+shared-slice-read-pair-2 c = search rules
+
+pair-requires : tie.Need-pair-requires
+pair-requires c κs = search rules
+
+whole-if-requires : tie.Need-whole-if-requires
+whole-if-requires c κs = search rules
+
+verdict-requires : tie.Need-verdict-requires
+verdict-requires c κs = search rules
+
+returns-2 : tie.Need-returns-2
+unfolding item_count_judged
+returns-2 c = field_whole _ _ _ _ _ c.before.before.before.before.before.before.left.ensures c.before.before.before.before.before.if1.false (rw c.before.before.pair.ensures at c.before.whole-if.ensures) c.verdict.ensures
+
+pub count_spec : {M : Type 1} → statement M
+count_spec =
+    tie.close
+    (tie.spec
+    left-requires
+    missing-requires
+    returns
+    shared-slice-read-pair
+    add-pair
+    shared-slice-read-pair-2
+    pair-requires
+    whole-if-requires
+    verdict-requires
+    returns-2)
