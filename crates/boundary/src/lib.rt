@@ -1,3 +1,5 @@
+#![tactic(auto)]
+
 // The library as C and Rust programs call it: two functions by their C names, and nothing else. What each means is said where it is proved.
 ghost use Rattle.discipline.specs.Check.{Checks};
 ghost use Rattle.stepping.specs.Step.{Steps};

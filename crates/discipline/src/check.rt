@@ -10,7 +10,7 @@ use reader::bytes;
 use reader::state::State;
 
 #[repr(C)]
-#[derive(Drop)]
+#[derive(Clone, Copy)]
 pub struct Answer {
     pub place: usize,
     pub number: u32,

@@ -9,7 +9,7 @@ use machine::effect::Effect;
 use reader::state::{Instruction, Queue, State};
 
 // The number that holds the instruction back, or 0; and then what it does, and what is held of its cell and flag.
-#[derive(Drop)]
+#[derive(Clone, Copy)]
 pub struct Decision {
     pub effect: Effect,
     pub held: Held,

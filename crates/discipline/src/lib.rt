@@ -1,3 +1,5 @@
+#![tactic(auto)]
+
 // The top layer: Cohen and Schirmer's ownership discipline over the machine, the checked step, the run and the check of a whole case.
 pub mod check;
 pub mod decide;

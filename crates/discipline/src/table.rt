@@ -8,7 +8,7 @@ use machine::effect;
 use reader::state::{Instruction, State};
 
 // What is held of the cell that an instruction is about, and the flag of its thread.
-#[derive(Drop)]
+#[derive(Clone, Copy)]
 pub struct Held {
     pub dirty: u32,
     pub owner: u8,

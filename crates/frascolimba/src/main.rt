@@ -1,3 +1,5 @@
+#![tactic(auto)]
+
 // The program: reads a case from standard input and writes its report to standard output.
 
 // No length field can name as many bytes as the buffer holds, so what stands behind them changes no answer.

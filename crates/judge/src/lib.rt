@@ -1,3 +1,5 @@
+#![tactic(auto)]
+
 // From the bytes of a case to the bytes of its report. A program over cases is this and a way of reading them.
 ghost use Rattle.std.specs.Prelude.{◌≡◌, ◌≤◌, length};
 ghost use Rattle.reader.specs.Bytes.{byte};

@@ -12,7 +12,7 @@ use crate::{buffer, integer};
 use reader::state::{Instruction, Pending, Queue, State};
 
 // What an instruction finds: its thread's position, its register's content, and its cell's word in memory.
-#[derive(Drop)]
+#[derive(Clone, Copy)]
 pub struct Seen {
     pub at: usize,
     pub content: i32,
@@ -20,7 +20,7 @@ pub struct Seen {
 }
 
 // What it does: where its thread goes, what it read, what its register and its cell in memory then hold, and what it puts into the buffer.
-#[derive(Drop)]
+#[derive(Clone, Copy)]
 pub struct Effect {
     pub next: usize,
     pub value: i32,

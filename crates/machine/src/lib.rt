@@ -1,3 +1,5 @@
+#![tactic(auto)]
+
 // The middle layer: the machine with store buffers, without any rule of ownership, and the machine of one memory.
 pub mod buffer;
 pub mod effect;

@@ -5,7 +5,7 @@ ghost use Rattle.machine.specs.Run.{refused_of, taken_of};
 use reader::state::State;
 
 // A step: the next state and what was read; or the number that holds the item back, and the state as it was.
-#[derive(Drop)]
+#[derive(Clone, Copy)]
 pub struct Outcome {
     pub state: State,
     pub number: u32,
@@ -13,7 +13,7 @@ pub struct Outcome {
 }
 
 // A run: how many items were taken, the state then, and the number of the item that was not, or 0.
-#[derive(Drop)]
+#[derive(Clone, Copy)]
 pub struct Ran {
     pub state: State,
     pub place: usize,

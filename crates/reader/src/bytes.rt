@@ -6,7 +6,7 @@ ghost use Rattle.reader.specs.Rules.{cell_bytes, instruction_bytes};
 use crate::state::Instruction;
 
 // A cell record of a case.
-#[derive(Drop)]
+#[derive(Clone, Copy)]
 pub struct Cell {
     pub value: i32,
     pub owner: u8,

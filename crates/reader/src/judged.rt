@@ -6,14 +6,14 @@ use crate::state::State;
 use crate::{bytes, rules};
 
 // A refusal with its place; or number 0, and the place where the next field begins.
-#[derive(Drop)]
+#[derive(Clone, Copy)]
 pub struct Judged {
     pub place: usize,
     pub number: u32,
 }
 
 // What was read so far: the verdict on the last field, and the state as far as it is filled.
-#[derive(Drop)]
+#[derive(Clone, Copy)]
 pub struct Part {
     pub judged: Judged,
     pub state: State,

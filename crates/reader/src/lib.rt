@@ -1,3 +1,5 @@
+#![tactic(auto)]
+
 // The lowest layer: what a case is, and from bytes to the state that it starts. Nothing here knows how a thread steps.
 ghost use Rattle.std.specs.Prelude.{◌≡◌, ◌+◌, ◌≤◌, length};
 ghost use Rattle.reader.specs.Case.{front_judged, sizes_judged, sized_of, refused_of, scheduled_of, read_of};
@@ -16,7 +18,7 @@ use judged::{Judged, Part};
 use state::State;
 
 // A case that was read: the number and the place of a refusal; or number 0, the state that the case starts, and where its schedule stands.
-#[derive(Drop)]
+#[derive(Clone, Copy)]
 pub struct Reading {
     pub number: u32,
     pub place: usize,

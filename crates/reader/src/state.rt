@@ -10,7 +10,7 @@ ghost use Rattle.reader.specs.Drain.{Drainable, drained_of};
 
 // A store that has not reached memory.
 #[repr(C)]
-#[derive(Drop)]
+#[derive(Clone, Copy)]
 pub struct Pending {
     pub value: i32,
     pub cell: u32,
@@ -18,14 +18,14 @@ pub struct Pending {
 
 // A thread's buffer: the first `count` entries are its pending stores, oldest first.
 #[repr(C)]
-#[derive(Drop)]
+#[derive(Clone, Copy)]
 pub struct Queue {
     pub entries: [Pending; State::DEPTH],
     pub count: usize,
 }
 
 #[repr(C)]
-#[derive(Drop)]
+#[derive(Clone, Copy)]
 pub struct Instruction {
     pub value: i32,
     pub operation: u16,
@@ -35,7 +35,7 @@ pub struct Instruction {
 
 // Thread t + 1 has row t of each array. Its instructions begin at t * INSTRUCTIONS of `code`, its registers at t * REGISTERS.
 #[repr(C)]
-#[derive(Drop)]
+#[derive(Clone, Copy)]
 pub struct State {
     pub threads: usize,
     pub cells: usize,

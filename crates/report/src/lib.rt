@@ -1,3 +1,5 @@
+#![tactic(auto)]
+
 // The program's output as text in a lent buffer: a line for the answer and, where the case ran, one for the values and one for the memory.
 ghost use Rattle.std.specs.Prelude.{◌≡◌, ◌≤◌, length};
 ghost use Rattle.report.specs.Text.{report as Text·report, has_run};

@@ -9,7 +9,7 @@ use reader::rules;
 use reader::state::State;
 
 // The answer, and the state after the call: the one that was lent, unless the number is 0.
-#[derive(Drop)]
+#[derive(Clone, Copy)]
 pub struct After {
     pub state: State,
     pub answer: Answer,

@@ -1,3 +1,5 @@
+#![tactic(auto)]
+
 // The program: judges every case of a bundle on standard input and writes their reports to standard output, one behind the other.
 // A bundle is any number of cases, each behind its length in four bytes.
 ghost use Rattle.std.specs.Prelude.{◌≤◌, false, ◌≡◌};
