@@ -94,7 +94,7 @@ fn value_fits(i: Instruction) -> bool
 }
 
 // Where an instruction is first wrong, as an offset into its bytes, or else its length.
-#[tactic(auto, unfolding(crate::specs::Rules::instruction_wrong))]
+#[tactic(auto, unfolding(crate::specs::Rules::instruction_wrong, crate::specs::Rules::within))]
 pub fn instruction_wrong(cells: usize, count: usize, i: Instruction) -> usize
     requires { count ≤ INSTRUCTIONS }
     ensures { result ≡ instruction_wrong cells count i }
