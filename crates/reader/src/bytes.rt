@@ -56,6 +56,7 @@ pub fn signed(word: u32) -> i32
     }
 }
 
+#[tactic(auto, unfolding(crate::specs::Bytes::value_at))]
 fn value_at(case: &[u8], at: usize) -> i32
     requires { at + 4 ≤ length case.now }
     ensures { result ≡ value_at case.now at }
@@ -63,6 +64,7 @@ fn value_at(case: &[u8], at: usize) -> i32
     signed(word(case[at], case[at + 1], case[at + 2], case[at + 3]))
 }
 
+#[tactic(auto, unfolding(crate::specs::Bytes::cell_at))]
 pub fn cell_at(case: &[u8], at: usize) -> Cell
     requires { at + cell_bytes ≤ length case.now }
     ensures { result ≡ cell_at case.now at }
@@ -75,6 +77,7 @@ pub fn cell_at(case: &[u8], at: usize) -> Cell
     }
 }
 
+#[tactic(auto, unfolding(crate::specs::Bytes::instruction_at))]
 pub fn instruction_at(case: &[u8], at: usize) -> Instruction
     requires { at + instruction_bytes ≤ length case.now }
     ensures { result ≡ instruction_at case.now at }

@@ -27,6 +27,7 @@ const USES: [[u8; 3]; LAST] = [
 ];
 
 // Whether an operation uses a field.
+#[tactic(auto, unfolding(crate::specs::Operations::uses_of))]
 pub fn uses(operation: usize, field: usize) -> u8
     requires { (1 ≤ operation) × (operation ≤ OPERATIONS) × (field < 3) }
     ensures { result ≡ uses_of operation field }

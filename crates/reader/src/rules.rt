@@ -13,6 +13,7 @@ pub const INSTRUCTION_BYTES: usize = 7;
 
 const BRANCH: usize = 9;
 
+#[tactic(auto, unfolding(crate::specs::Rules::within))]
 pub fn is_within(low: usize, high: usize, x: usize) -> bool
     ensures { result ≡ within low high x }
 {
@@ -23,6 +24,7 @@ pub fn is_within(low: usize, high: usize, x: usize) -> bool
 }
 
 // Where a cell record is first wrong, as an offset into its bytes, or else its length.
+#[tactic(auto, unfolding(crate::specs::Rules::cell_wrong))]
 pub fn cell_wrong(threads: usize, owner: u8, sharing: u8) -> usize
     ensures { result ≡ cell_wrong threads owner sharing }
 {
@@ -38,6 +40,7 @@ pub fn cell_wrong(threads: usize, owner: u8, sharing: u8) -> usize
     CELL_BYTES
 }
 
+#[tactic(auto, unfolding(crate::specs::Rules::fits_of))]
 fn fits(used: u8, bound: usize, x: usize) -> bool
     ensures { result ≡ fits_of used bound x }
 {
@@ -48,6 +51,7 @@ fn fits(used: u8, bound: usize, x: usize) -> bool
 }
 
 // What an instruction's cell byte is below.
+#[tactic(auto, unfolding(crate::specs::Rules::bound_of))]
 fn bound(operation: usize, cells: usize, count: usize) -> usize
     requires { count ≤ INSTRUCTIONS }
     ensures { result ≡ bound_of operation cells count }
@@ -59,6 +63,7 @@ fn bound(operation: usize, cells: usize, count: usize) -> usize
     }
 }
 
+#[tactic(auto, unfolding(crate::specs::Rules::cell_fits))]
 fn cell_fits(cells: usize, count: usize, i: Instruction) -> bool
     requires { (1 ≤ i.operation) × (i.operation ≤ OPERATIONS) × (count ≤ INSTRUCTIONS) }
     ensures { result ≡ cell_fits cells count i }
@@ -68,6 +73,7 @@ fn cell_fits(cells: usize, count: usize, i: Instruction) -> bool
     fits(used, bound(operation, cells, count), i.cell as usize)
 }
 
+#[tactic(auto, unfolding(crate::specs::Rules::register_fits))]
 fn register_fits(i: Instruction) -> bool
     requires { (1 ≤ i.operation) × (i.operation ≤ OPERATIONS) }
     ensures { result ≡ register_fits i }
@@ -76,6 +82,7 @@ fn register_fits(i: Instruction) -> bool
     fits(used, State::REGISTERS, i.register as usize)
 }
 
+#[tactic(auto, unfolding(crate::specs::Rules::value_fits))]
 fn value_fits(i: Instruction) -> bool
     requires { (1 ≤ i.operation) × (i.operation ≤ OPERATIONS) }
     ensures { result ≡ value_fits i }
@@ -87,6 +94,7 @@ fn value_fits(i: Instruction) -> bool
 }
 
 // Where an instruction is first wrong, as an offset into its bytes, or else its length.
+#[tactic(auto, unfolding(crate::specs::Rules::instruction_wrong, crate::specs::Rules::within))]
 pub fn instruction_wrong(cells: usize, count: usize, i: Instruction) -> usize
     requires { count ≤ INSTRUCTIONS }
     ensures { result ≡ instruction_wrong cells count i }
@@ -107,6 +115,7 @@ pub fn instruction_wrong(cells: usize, count: usize, i: Instruction) -> usize
 }
 
 // Whether a byte is an item of so many threads.
+#[tactic(auto, unfolding(crate::specs::Rules::item_fits))]
 pub fn item_fits(threads: usize, x: usize) -> bool
     requires { threads ≤ THREADS }
     ensures { result ≡ item_fits threads x }
