@@ -1,0 +1,4 @@
+use Rattle.report.proofs.number.+natural.Given as goal
+
+abbrev pub decreases-natural : goal.decreases-natural
+decreases-natural l = l.n
