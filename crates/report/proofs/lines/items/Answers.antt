@@ -1,7 +1,7 @@
 -- Each number takes its share of the room at most.
 use mir.Facts.{to_z-of_z}
-use Rattle.std.proofs.Common.{◌≡◌, arith, get_or, pos, w32, FitsSigned, rules}
-use Rattle.report.proofs.Items.{items_start, item_fits_lem, item_put, items_short, items_done}
+use Rattle.std.proofs.Common.{arith, get_or, pos, w32, FitsSigned, rules}
+use Rattle.report.proofs.Items.{items_start, item_fits_lem, item_put}
 use Rattle.report.proofs.lines.items.Goals as goal
 
 pub loop-k-init : goal.loop-k-init
