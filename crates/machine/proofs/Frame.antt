@@ -1,5 +1,5 @@
 -- What a step of one thread does to its own row, and that it leaves the rows of the others. Once over the thread number.
-use Rattle.std.proofs.Common.{◌≡◌, ℕ, ◌-◌, ◌<◌, ◌≤◌, drop, pos, refl, arith, get_or-set_other, get_or-set_same}
+use Rattle.std.proofs.Common.{◌≡◌, ℕ, ◌<◌, ◌≤◌, drop, pos, refl, arith, get_or-set_other, get_or-set_same}
 use Rattle.reader.specs.declared.state.Instruction.{Instruction}
 use Rattle.reader.specs.declared.state.State.{State}
 use Rattle.reader.specs.Limits.{THREADS, CELLS, REGISTERS, DEPTH}

@@ -1,0 +1,54 @@
+-- Each arm by its number, the last by being none of the ten.
+use Rattle.std.proofs.Common.{◌≡◌, to_z, of_z, w32, arith, rules}
+use Rattle.machine.specs.Action.{action_of}
+use Rattle.machine.specs.Effect.{effect_of}
+use Rattle.machine.proofs.Ten.{unknown_end}
+use Rattle.machine.proofs.effect.change.Goals as goal
+
+pub returns-in-1 : goal.returns-in-1
+unfolding action_of effect_of
+returns-in-1 c = rw c.in-1.is c.load.ensures
+
+pub returns-in-2 : goal.returns-in-2
+unfolding action_of effect_of
+returns-in-2 c =
+    let z : to_z w32 (of_z w32 c.args.i.value) ≡ c.args.i.value = search rules in
+    rw c.in-2.is (rw z at c.store_value.ensures)
+
+pub returns-in-3 : goal.returns-in-3
+unfolding action_of effect_of
+returns-in-3 c =
+    let z : to_z w32 (of_z w32 c.args.v.content) ≡ c.args.v.content = search rules in
+    rw c.in-3.is (rw z at c.store_value-in-3.ensures)
+
+pub returns-in-4 : goal.returns-in-4
+unfolding action_of effect_of
+returns-in-4 c = rw c.in-4.is c.quiet.ensures
+
+pub returns-in-5 : goal.returns-in-5
+unfolding action_of effect_of
+returns-in-5 c = rw c.in-5.is c.compare_swap.ensures
+
+pub returns-in-6 : goal.returns-in-6
+unfolding action_of effect_of
+returns-in-6 c = rw c.in-6.is c.quiet-in-6.ensures
+
+pub returns-in-7 : goal.returns-in-7
+unfolding action_of effect_of
+returns-in-7 c = rw c.in-7.is c.quiet-in-7.ensures
+
+pub returns-in-8 : goal.returns-in-8
+unfolding action_of effect_of
+returns-in-8 c = rw c.in-8.is c.quiet-in-8.ensures
+
+pub returns-in-9 : goal.returns-in-9
+unfolding action_of effect_of
+returns-in-9 c = rw c.in-9.is c.branch-v.ensures
+
+pub returns-in-10 : goal.returns-in-10
+unfolding action_of effect_of
+returns-in-10 c = rw c.in-10.is c.add.ensures
+
+pub returns-in_default : goal.returns-in_default
+unfolding effect_of
+returns-in_default c = rw (unknown_end c.args.i _ _ (record { n1 = λ e. omega arith; n2 = λ e. omega arith; n3 = λ e. omega arith; n4 = λ e. omega arith; n5 = λ e. omega arith; n6 = λ e. omega arith; n7 = λ e. omega arith; n8 = λ e. omega arith; n9 = λ e. omega arith; n10 = λ e. omega arith })) c.quiet-in_default.ensures
