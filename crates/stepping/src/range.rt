@@ -8,6 +8,7 @@ use reader::rules;
 use reader::state::{Queue, State};
 
 // The number of threads, of cells, and the depth.
+#[tactic(auto, unfolding(crate::specs::Range::sizes_fit))]
 fn sizes_fit(s: State) -> bool
     ensures { result ≡ sizes_fit s }
 {
@@ -79,6 +80,7 @@ fn queue_fits(cells: usize, depth: usize, q: Queue) -> bool
 }
 
 // Program, buffer and position of row t.
+#[tactic(auto, unfolding(crate::specs::Range::thread_fits))]
 fn thread_fits(s: State, t: usize) -> bool
     requires { (t < THREADS) × (s.depth ≤ DEPTH) }
     ensures { result ≡ thread_fits s t }
@@ -108,6 +110,7 @@ fn threads_fit(s: State) -> bool
     true
 }
 
+#[tactic(auto, unfolding(crate::specs::Range::in_range_of))]
 pub fn is_in_range(s: State) -> bool
     ensures { result ≡ in_range_of s }
 {

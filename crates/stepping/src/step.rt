@@ -31,6 +31,7 @@ fn kept(s: State, number: u32) -> After
 }
 
 // Place and thread of an item that was taken, or not.
+#[tactic(auto, unfolding(crate::specs::Step::answered_of))]
 fn answered(number: u32, item: u8) -> Answer
     ensures { result ≡ answered_of number item }
 {
@@ -48,6 +49,7 @@ fn answered(number: u32, item: u8) -> Answer
     }
 }
 
+#[tactic(auto, unfolding(crate::specs::Step::stepped_of))]
 pub fn stepped(s: State, item: u8) -> After
     ensures { result ≡ stepped_of s item }
 {
