@@ -6,6 +6,7 @@ ghost use Rattle.machine.specs.Buffer.{forwarded, after_of};
 use reader::state::{Pending, Queue};
 
 // The newest pending store to a cell, or else the word in memory.
+#[tactic(auto, using(crate::proofs::Newest::newest_hit, crate::proofs::Newest::newest_pass), unfolding(crate::specs::Buffer::newest_of))]
 pub fn newest(q: Queue, cell: u32, word: i32) -> i32
     requires { q.count ≤ DEPTH }
     ensures { result ≡ forwarded q cell word }

@@ -56,6 +56,7 @@ pub fn code_place(t: usize, k: usize) -> usize
     t * State::INSTRUCTIONS + k
 }
 
+#[tactic(auto, unfolding(crate::specs::Look::looked_of))]
 pub fn looked<'a>(
     memory: &'a [i32; State::CELLS],
     registers: &'a [i32; State::THREADS * State::REGISTERS],
@@ -78,6 +79,7 @@ pub fn looked<'a>(
 }
 
 // 21: FENCE or COMPARE-SWAP with pending stores.
+#[tactic(auto, unfolding(crate::specs::Effect::guard))]
 fn waits(q: Queue) -> u32
     ensures { result ≡ guard (pends q) 21 0 }
 {
@@ -88,6 +90,7 @@ fn waits(q: Queue) -> u32
 }
 
 // 22: STORE with depth already reached.
+#[tactic(auto, unfolding(crate::specs::Effect::guard))]
 fn full(depth: usize, q: Queue) -> u32
     ensures { result ≡ guard (nat_le depth q.count) 22 0 }
 {
@@ -98,6 +101,7 @@ fn full(depth: usize, q: Queue) -> u32
 }
 
 // The number that holds an instruction back, or 0.
+#[tactic(auto, unfolding(crate::specs::Action::action_of, crate::specs::Effect::blocked_of))]
 pub fn blocked(depth: usize, q: Queue, i: Instruction, v: Seen) -> u32
     ensures { result ≡ blocked_of depth q (action_of i v.at v.content) }
 {
@@ -132,6 +136,7 @@ fn quiet(v: Seen) -> Effect
     }
 }
 
+#[tactic(auto, unfolding(crate::specs::Effect::effect_of))]
 fn load(v: Seen, q: Queue, i: Instruction) -> Effect
     requires { (v.at < INSTRUCTIONS) × (q.count ≤ DEPTH) }
     ensures { result ≡ effect_of v q (read i.cell) }
@@ -143,6 +148,7 @@ fn load(v: Seen, q: Queue, i: Instruction) -> Effect
     e
 }
 
+#[tactic(auto, unfolding(crate::specs::Effect::effect_of))]
 fn store_value(v: Seen, q: Queue, i: Instruction, x: i32) -> Effect
     requires { v.at < INSTRUCTIONS }
     ensures { result ≡ effect_of v q (store i.cell x) }
@@ -162,6 +168,7 @@ fn value_if(x: i32, y: i32, a: i32, b: i32) -> i32
     b
 }
 
+#[tactic(auto, unfolding(crate::specs::Effect::effect_of))]
 fn compare_swap(v: Seen, q: Queue, i: Instruction) -> Effect
     requires { v.at < INSTRUCTIONS }
     ensures { result ≡ effect_of v q (swap i.cell v.content i.value) }
@@ -182,6 +189,7 @@ fn place_if(x: i32, y: i32, a: usize, b: usize) -> usize
     b
 }
 
+#[tactic(auto, unfolding(crate::specs::Effect::effect_of))]
 fn branch(v: Seen, q: Queue, i: Instruction) -> Effect
     requires { v.at < INSTRUCTIONS }
     ensures { result ≡ effect_of v q (silent (pick (eq_z v.content i.value) i.cell (v.at + 1)) v.content) }
@@ -191,6 +199,7 @@ fn branch(v: Seen, q: Queue, i: Instruction) -> Effect
     e
 }
 
+#[tactic(auto, unfolding(crate::specs::Effect::effect_of))]
 fn add(v: Seen, q: Queue, i: Instruction) -> Effect
     requires { v.at < INSTRUCTIONS }
     ensures { result ≡ effect_of v q (silent (v.at + 1) (sum_of v.content i.value)) }
@@ -201,6 +210,7 @@ fn add(v: Seen, q: Queue, i: Instruction) -> Effect
 }
 
 // What an instruction does that is not held back.
+#[tactic(auto, unfolding(crate::specs::Action::action_of, crate::specs::Effect::effect_of))]
 pub fn change(v: Seen, q: Queue, i: Instruction) -> Effect
     requires { (v.at < INSTRUCTIONS) × (q.count ≤ DEPTH) }
     ensures { result ≡ effect_of v q (action_of i v.at v.content) }
@@ -222,6 +232,7 @@ pub fn change(v: Seen, q: Queue, i: Instruction) -> Effect
 }
 
 // The state after instruction i of row t with an effect: the one place that stores it by value.
+#[tactic(auto, unfolding(crate::specs::Effect::took_of))]
 pub fn applied(m: State, t: usize, i: Instruction, e: Effect) -> State
     requires { Lookable t i × (e.pushes ≡ true → (queue_of m t).count < DEPTH) }
     ensures { result ≡ took_of m t i e }

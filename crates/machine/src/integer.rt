@@ -17,6 +17,7 @@ fn bits_of(x: i32) -> u32
 }
 
 // x + y modulo 2^32, in the signed range.
+#[tactic(auto, using(crate::proofs::Bits::sum_mod), unfolding(crate::specs::Integer::wrapped))]
 pub fn sum(x: i32, y: i32) -> i32
     ensures { result ≡ sum_of x y }
 {

@@ -11,6 +11,7 @@ use reader::bytes;
 use reader::state::{Queue, State};
 
 // A store reaches memory at once.
+#[tactic(auto, unfolding(crate::specs::Plain::at_once))]
 fn at_once(e: Effect) -> Effect
     ensures { result ≡ at_once e }
 {

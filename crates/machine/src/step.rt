@@ -32,6 +32,7 @@ fn take(m: State, t: usize) -> Outcome
 }
 
 // The oldest pending store of row t.
+#[tactic(auto, unfolding(crate::specs::Step::drain_step, crate::specs::Effect::guard, crate::specs::Run::unless))]
 fn drain(m: State, t: usize) -> Outcome
     requires { InRange m × (t < m.threads) }
     ensures { result ≡ drain_step m t }
@@ -44,6 +45,7 @@ fn drain(m: State, t: usize) -> Outcome
 }
 
 // One item, or what holds it back.
+#[tactic(auto, using(crate::proofs::Take::drain_row, crate::proofs::Take::take_row), unfolding(crate::specs::Step::step_of))]
 pub fn stepped(m: State, item: u8) -> Outcome
     requires { InRange m × (item_fits m.threads item ≡ true) }
     ensures { result ≡ step_of m item }

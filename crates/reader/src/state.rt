@@ -179,6 +179,7 @@ impl State {
     }
 
     // Draining moves the oldest pending store of row t into memory. One straight line to one literal: the cheapest shape by value.
+    #[tactic(auto, unfolding(crate::specs::Drain::drained_of))]
     pub fn drained(self, t: usize) -> State
         requires { Drainable self t }
         ensures { result ≡ drained_of self t }

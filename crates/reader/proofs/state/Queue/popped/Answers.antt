@@ -1,4 +1,4 @@
-use Rattle.std.proofs.Common.{rules, ◌≡◌, ◌<◌, ◌≤◌, ◌+◌, ◌-◌, length, List, refl, ap, ◌∙◌, arith}
+use Rattle.std.proofs.Common.{rules, ◌≡◌, ◌+◌, ◌-◌, length, List, ap, ◌∙◌, arith}
 use Rattle.reader.specs.Limits.{DEPTH}
 use Rattle.reader.specs.Queue.{shifted}
 use Rattle.reader.specs.State.{no_pending}

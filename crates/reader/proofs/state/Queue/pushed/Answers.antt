@@ -1,4 +1,4 @@
-use Rattle.std.proofs.Common.{rules, ◌≡◌, ◌+◌, length, refl, ap, ◌∙◌, arith}
+use Rattle.std.proofs.Common.{rules, ◌≡◌, length, ◌∙◌, arith}
 use lib.ListN.{set, length-set}
 use Rattle.reader.specs.Limits.{DEPTH}
 use Rattle.reader.proofs.Fill.{fill_again, pushed_at}

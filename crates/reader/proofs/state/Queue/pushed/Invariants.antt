@@ -1,5 +1,5 @@
 -- Place by place, the row becomes the one with an entry more.
-use Rattle.std.proofs.Common.{◌≡◌, ◌≤◌, ◌+◌, ◌-◌, ◌++◌, take, drop}
+use Rattle.std.proofs.Common.{◌≡◌, ◌≤◌, ◌-◌, ◌++◌, take, drop}
 use Rattle.std.specs.Prelude.{set}
 use Rattle.reader.specs.Limits.{DEPTH}
 use Rattle.reader.proofs.state.Queue.pushed.Given as goal
