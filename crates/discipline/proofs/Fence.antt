@@ -1,6 +1,6 @@
 -- "A waiting FENCE has no other hurdle: after as many drains of its thread as there are stores pending, at most 8, it is taken, with taken items of
 -- other threads in between making no difference."
-use Prim.Native.Nat.{ℕ, suc, ◌+◌, ◌-◌, ◌<◌, ◌≤◌}
+use Prim.Native.Nat.{ℕ, suc, ◌+◌, ◌<◌, ◌≤◌}
 use mathlib.Core.Path.{◌≡◌, sym, ap, ◌∙◌}
 use native.Mathlib.Omega.{arith}
 use lib.ListN.{length, get_or, set, length-set}

@@ -1,6 +1,6 @@
 -- The machine with buffers under the discipline, as the definitions have it, takes what the machine of Abstract takes. The rules come in here, as the
 -- reasons that do not stand against an item that is taken.
-use Prim.Native.Nat.{ℕ, suc, ◌+◌, ◌-◌, ◌<◌, ◌≤◌}
+use Prim.Native.Nat.{ℕ, suc, ◌+◌, ◌<◌, ◌≤◌}
 use mathlib.Core.Bool.{Bool, true, false, not}
 use mathlib.Core.Logic.{◌≢◌}
 use mathlib.Core.Path.{◌≡◌, refl, sym, ◌∙◌, ap, subst}
@@ -42,7 +42,7 @@ use Rattle.discipline.specs.Order.{stored, plan_by}
 use Rattle.discipline.proofs.Outcomes.{pending_there, neither, drain_taken, instruction_taken}
 use Rattle.discipline.proofs.Free.{waits_free, room_free, Loadable, of_own, of_shared, load_free, store_free, acquire_free, release_free, flag_stored}
 use Rattle.discipline.proofs.Maps.{upd, upd_id}
-use Rattle.discipline.proofs.Abstract.{Table, Machine, thread, enter, with_thread, drained, pends, dirtied, plan, Readable, own, shared, Takes, t_silent, t_load, t_store, t_fence, t_swap, t_acquire, t_release, Drains, t_drain}
+use Rattle.discipline.proofs.Abstract.{Table, Machine, enter, with_thread, drained, pends, dirtied, plan, Readable, own, shared, Takes, t_silent, t_load, t_store, t_fence, t_swap, t_acquire, t_release, Drains, t_drain}
 use Rattle.discipline.proofs.View.{Log, Local, noted, went, acted, program, registers_of, local_of, memory_map, table_map, view}
 use Rattle.discipline.proofs.Viewed.{view_took, view_drained}
 use Rattle.discipline.proofs.Buffers.{oldest_first, forwarded_drained, nowhere_else}
