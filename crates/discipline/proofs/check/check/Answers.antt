@@ -27,7 +27,7 @@ pub given-requires : goal.given-requires
 given-requires c =
     let w = read_right _ c.read-r.ensures c.if-r-ne0.false in
     let h = w.in_range.cells in
-    (omega arith, c.if-memory-cells.false)
+    (omega arith, omega arith)
 
 pub overflow_add-start : goal.overflow_add-start
 overflow_add-start c =
