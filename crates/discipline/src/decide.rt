@@ -36,6 +36,7 @@ pub fn is_acquire(i: Instruction) -> bool
     i.operation == 7
 }
 
+#[tactic(auto, unfolding(crate::specs::Decide::decided_of, crate::specs::Decide::decision_of), using(machine::proofs::Take::looked_at))]
 pub fn decided<'a>(
     memory: &'a [i32; State::CELLS],
     registers: &'a [i32; State::THREADS * State::REGISTERS],

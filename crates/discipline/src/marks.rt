@@ -11,6 +11,7 @@ use machine::effect::Seen;
 use reader::state::Instruction;
 
 // A store to any cell but an own local one sets the flag.
+#[tactic(auto, unfolding(crate::specs::Marks::stored_of))]
 fn stored(h: Held, t: usize) -> Held
     requires { t < THREADS }
     ensures { result ≡ stored_of h t }
@@ -53,6 +54,7 @@ fn release(h: Held) -> Held
 }
 
 // What is held of an instruction's cell and of its thread's flag once it is taken.
+#[tactic(auto, unfolding(crate::specs::Marks::marks_of, machine::specs::Action::action_of))]
 pub fn marked(h: Held, t: usize, i: Instruction, v: Seen) -> Held
     requires { t < THREADS }
     ensures { result ≡ marks_of h t (action_of i v.at v.content) }

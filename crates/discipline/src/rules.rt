@@ -10,6 +10,7 @@ use machine::effect::Seen;
 use reader::state::{Instruction, Queue};
 
 // 30: load of another's local cell. 31: load of a shared cell not one's own, dirty flag set.
+#[tactic(auto, unfolding(crate::specs::Rules::load_breaks, machine::specs::Effect::guard))]
 fn load(t: usize, h: Held) -> u32
     requires { t < THREADS }
     ensures { result ≡ load_breaks t h }
@@ -27,6 +28,7 @@ fn load(t: usize, h: Held) -> u32
 }
 
 // 32: store or COMPARE-SWAP to another's cell.
+#[tactic(auto, unfolding(crate::specs::Rules::store_breaks, machine::specs::Effect::guard))]
 fn store(t: usize, h: Held) -> u32
     requires { t < THREADS }
     ensures { result ≡ store_breaks t h }
@@ -38,6 +40,7 @@ fn store(t: usize, h: Held) -> u32
 }
 
 // 33: ACQUIRE of an owned cell, one's own too. 34: ACQUIRE with a store to it pending elsewhere.
+#[tactic(auto, unfolding(crate::specs::Rules::acquire_breaks, machine::specs::Effect::guard))]
 fn acquire(t: usize, h: Held, elsewhere: bool) -> u32
     ensures { result ≡ acquire_breaks t h elsewhere }
 {
@@ -51,6 +54,7 @@ fn acquire(t: usize, h: Held, elsewhere: bool) -> u32
 }
 
 // 35: RELEASE of a cell not one's own. 36: RELEASE with pending stores.
+#[tactic(auto, unfolding(crate::specs::Rules::release_breaks, machine::specs::Effect::guard))]
 fn release(t: usize, h: Held, q: Queue) -> u32
     requires { t < THREADS }
     ensures { result ≡ release_breaks t h q }
@@ -65,6 +69,7 @@ fn release(t: usize, h: Held, q: Queue) -> u32
 }
 
 // The number of the rule that an instruction of row t breaks, or 0.
+#[tactic(auto, unfolding(crate::specs::Rules::broken_of, machine::specs::Action::action_of))]
 pub fn broken(t: usize, h: Held, q: Queue, elsewhere: bool, i: Instruction, v: Seen) -> u32
     requires { t < THREADS }
     ensures { result ≡ broken_of t h q elsewhere (action_of i v.at v.content) }

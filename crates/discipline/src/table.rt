@@ -15,6 +15,7 @@ pub struct Held {
     pub sharing: u8,
 }
 
+#[tactic(auto, unfolding(crate::specs::Table::held_of))]
 pub fn look<'a>(
     owners: &'a [u8; State::CELLS],
     sharing: &'a [u8; State::CELLS],

@@ -6,6 +6,7 @@ ghost use Rattle.reader.specs.Case.{cell_judged, cells_of};
 use crate::judged::{Judged, Part};
 use crate::{bytes, judged, rules};
 
+#[tactic(auto, unfolding(crate::specs::Case::cell_judged, crate::specs::Case::field))]
 fn cell(case: &[u8], threads: usize, at: usize) -> Judged
     ensures { result ≡ cell_judged case.now threads at }
 {

@@ -30,6 +30,7 @@ pub fn missing(at: usize) -> Judged
 }
 
 // The verdict on a field of n bytes that is there, from where it is first wrong.
+#[tactic(auto, unfolding(crate::specs::Case::verdict_of))]
 pub fn verdict(n: usize, number: u32, at: usize, wrong: usize) -> Judged
     requires { at + n < 2 ^ 64 }
     ensures { result ≡ verdict_of n number at wrong }
@@ -54,6 +55,7 @@ pub fn whole_if(ok: bool, n: usize) -> usize
 }
 
 // A count of one byte, within its limits.
+#[tactic(auto, unfolding(crate::specs::Case::count_judged, crate::specs::Case::field))]
 pub fn count(case: &[u8], low: usize, high: usize, at: usize) -> Judged
     ensures { result ≡ count_judged case.now low high at }
 {

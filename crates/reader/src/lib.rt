@@ -28,6 +28,7 @@ pub struct Reading {
 }
 
 // Length, version and the length field.
+#[tactic(auto, unfolding(crate::specs::Case::front_judged))]
 fn front(case: &[u8]) -> Judged
     ensures { result ≡ front_judged case.now }
 {
@@ -56,6 +57,7 @@ fn front(case: &[u8]) -> Judged
 }
 
 // Threads, cells and depth.
+#[tactic(auto, unfolding(crate::specs::Case::sizes_judged))]
 fn sizes(case: &[u8]) -> Judged
     ensures { result ≡ sizes_judged case.now }
 {
@@ -82,6 +84,7 @@ fn sized(case: &[u8]) -> State
     s
 }
 
+#[tactic(auto, unfolding(crate::specs::Case::refused_of))]
 fn refused(j: Judged) -> Reading
     ensures { result ≡ refused_of j }
 {

@@ -7,6 +7,7 @@ use crate::judged::{Judged, Part};
 use crate::state::State;
 use crate::{bytes, judged, rules};
 
+#[tactic(auto, unfolding(crate::specs::Case::instruction_judged, crate::specs::Case::field))]
 fn instruction(case: &[u8], cells: usize, count: usize, at: usize) -> Judged
     requires { count ≤ INSTRUCTIONS }
     ensures { result ≡ instruction_judged case.now cells count at }

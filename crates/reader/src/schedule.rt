@@ -8,6 +8,7 @@ use crate::state::State;
 use crate::{bytes, judged, rules};
 
 // The k-th item, which stands where j says.
+#[tactic(auto, unfolding(crate::specs::Case::item_judged, crate::specs::Case::field))]
 fn item(case: &[u8], threads: usize, k: usize, j: Judged) -> Judged
     requires { threads ≤ THREADS }
     ensures { result ≡ item_judged case.now threads k j }
@@ -40,6 +41,7 @@ fn items(case: &[u8], threads: usize, n: usize, at: usize) -> Judged
 }
 
 // The count of the schedule: one field of two bytes.
+#[tactic(auto, unfolding(crate::specs::Case::item_count_judged, crate::specs::Case::field))]
 fn count(case: &[u8], at: usize) -> Judged
     ensures { result ≡ item_count_judged case.now at }
 {
