@@ -1,4 +1,4 @@
-//! Frascolimba from Rust: what `frascolimba.h` says, with safe calls. Link the archive `libboundary.a` of `rt lib` in crates/boundary, for x86-64.
+//! Frascolimba from Rust: what `frascolimba.h` says, with safe calls. Link the archive `libboundary.a` of `include/archive`, for x86-64.
 //! What belongs here: the declarations and nothing that decides anything. Nothing checks them against the Rattle source but the examples.
 
 /// The limits. A state has room for as much; how much of it is used, its counts say.
