@@ -1,4 +1,4 @@
-pub mod Fill
+pub mod Shift
 pub mod Row
 pub mod Tests
 pub mod Each

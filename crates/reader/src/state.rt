@@ -1,9 +1,8 @@
 // The state of a run, its limits, and the moves of a queue row. What a thread does with them belongs to the machine.
-ghost use Rattle.std.specs.Prelude.{◌≡◌, ◌<◌, ◌≤◌};
+ghost use Rattle.std.specs.Prelude.{◌≡◌, ◌<◌, ◌≤◌, get_or};
 ghost use Rattle.reader.specs.Limits.{DEPTH};
-ghost use Rattle.reader.specs.Queue.{moved_up, popped_of, pushed_of};
-ghost use Rattle.reader.specs.Rules.{pick};
-ghost use Rattle.reader.specs.State.{no_queue, fresh_of};
+ghost use Rattle.reader.specs.Queue.{pending, popped_of, pushed_of};
+ghost use Rattle.reader.specs.State.{no_pending, no_queue, fresh_of};
 ghost use Rattle.reader.specs.Drain.{Drainable, drained_of};
 
 // A debugger lends a State over the C boundary: C layout, numbers only, and wide fields first, so that no byte of it is padding.
@@ -14,6 +13,11 @@ ghost use Rattle.reader.specs.Drain.{Drainable, drained_of};
 pub struct Pending {
     pub value: i32,
     pub cell: u32,
+}
+
+impl Pending {
+    // What stands in a place of a row that holds no store.
+    const NONE: Self = Pending { value: 0, cell: 0 };
 }
 
 // A thread's buffer: the first `count` entries are its pending stores, oldest first.
@@ -31,6 +35,16 @@ pub struct Instruction {
     pub operation: u16,
     pub cell: u8,
     pub register: u8,
+}
+
+impl Instruction {
+    // What stands in a place of a program that no case has filled.
+    const NONE: Self = Instruction {
+        value: 0,
+        operation: 0,
+        cell: 0,
+        register: 0,
+    };
 }
 
 // Thread t + 1 has row t of each array. Its instructions begin at t * INSTRUCTIONS of `code`, its registers at t * REGISTERS.
@@ -51,81 +65,46 @@ pub struct State {
     pub sharing: [u8; State::CELLS],
 }
 
-fn chosen(yes: bool, a: Pending, b: Pending) -> Pending
-    ensures { result ≡ pick yes a b }
-{
-    if yes {
-        return a;
-    }
-    b
-}
-
-// What stands at place j once the oldest entry is gone and the newest stood at place `last`.
-fn moved_up(here: Pending, behind: Pending, j: usize, last: usize) -> Pending
-    ensures { result ≡ moved_up here behind j last }
-{
-    if j < last {
-        return behind;
-    }
-    if j == last {
-        return Pending { value: 0, cell: 0 };
-    }
-    here
-}
-
-// A move writes every place of the row, and chooses what: a loop of fixed length over whole entries stays in registers, where one store at a
-// place known only at run time would send the whole row through memory and back.
 impl Queue {
     // The row without any entry: zero everywhere.
-    pub fn empty() -> Queue
+    pub fn empty() -> Self
         ensures { result ≡ no_queue }
     {
-        let entry = Pending { value: 0, cell: 0 };
-        let entries = [entry; State::DEPTH];
         Queue {
-            entries: entries,
+            entries: [Pending::NONE; State::DEPTH],
             count: 0,
         }
     }
 
-    // The row without its oldest entry: later ones moved up, the vacated place zeroed.
-    pub fn popped(self) -> Queue
-        requires { (0 < self.count) × (self.count ≤ DEPTH) }
-        ensures { result ≡ popped_of self }
+    // The pending stores, oldest first.
+    pub fn pending(&self) -> &[Pending]
+        requires { self.now.count ≤ DEPTH }
+        ensures { result.now ≡ pending self.now }
     {
-        let last = self.count - 1;
-        let mut q = self;
-        let mut j = 0;
-        while j < State::DEPTH - 1 {
-            let here = self.entries[j];
-            let behind = self.entries[j + 1];
-            let e = moved_up(here, behind, j, last);
-            q.entries[j] = e;
-            j += 1;
-        }
-        let here = self.entries[j];
-        let e = moved_up(here, here, j, last);
-        q.entries[j] = e;
-        q.count = last;
-        q
+        &self.entries[..self.count]
     }
 
-    // The row with one more entry, behind the others.
-    pub fn pushed(self, e: Pending) -> Queue
-        requires { self.count < DEPTH }
-        ensures { result ≡ pushed_of self e }
+    // One more entry, behind the others.
+    pub fn push(&mut self, e: Pending)
+        requires { self.old.count < DEPTH }
+        ensures { self.new ≡ pushed_of self.old e }
     {
-        let n = self.count;
-        let mut q = self;
-        let mut j = 0;
-        while j < State::DEPTH {
-            let here = self.entries[j];
-            let x = chosen(j == n, e, here);
-            q.entries[j] = x;
-            j += 1;
-        }
-        q.count = n + 1;
-        q
+        self.entries[self.count] = e;
+        self.count += 1;
+    }
+
+    // Takes the oldest entry out: later ones move up, the vacated place is zeroed.
+    #[tactic(auto, using(crate::proofs::Shift::shift_up))]
+    pub fn pop(&mut self) -> Pending
+        requires { (0 < self.old.count) × (self.old.count ≤ DEPTH) }
+        ensures oldest { result ≡ get_or self.old.entries 0 no_pending }
+        ensures left { self.new ≡ popped_of self.old }
+    {
+        let oldest = self.entries[0];
+        self.entries.copy_within(1..self.count, 0);
+        self.count -= 1;
+        self.entries[self.count] = Pending::NONE;
+        oldest
     }
 }
 
@@ -146,73 +125,39 @@ impl State {
     pub fn fresh() -> Self
         ensures { result ≡ fresh_of }
     {
-        let queue = Queue::empty();
-        let queues = [queue; State::THREADS];
-        let instruction = Instruction {
-            value: 0,
-            operation: 0,
-            cell: 0,
-            register: 0,
-        };
-        let code = [instruction; State::THREADS * State::INSTRUCTIONS];
-        let positions = [0usize; State::THREADS];
-        let counts = [0usize; State::THREADS];
-        let registers = [0i32; State::THREADS * State::REGISTERS];
-        let memory = [0i32; State::CELLS];
-        let dirty = [0u32; State::THREADS];
-        let owners = [0u8; State::CELLS];
-        let sharing = [0u8; State::CELLS];
         State {
             threads: 1,
             cells: 1,
             depth: 1,
-            positions: positions,
-            counts: counts,
-            queues: queues,
-            code: code,
-            registers: registers,
-            memory: memory,
-            dirty: dirty,
-            owners: owners,
-            sharing: sharing,
+            positions: [0; State::THREADS],
+            counts: [0; State::THREADS],
+            queues: [Queue::empty(); State::THREADS],
+            code: [Instruction::NONE; State::THREADS * State::INSTRUCTIONS],
+            registers: [0; State::THREADS * State::REGISTERS],
+            memory: [0; State::CELLS],
+            dirty: [0; State::THREADS],
+            owners: [0; State::CELLS],
+            sharing: [0; State::CELLS],
         }
     }
 
-    // Draining moves the oldest pending store of row t into memory. One straight line to one literal: the cheapest shape by value.
+    // Draining moves the oldest pending store of row t into memory.
     #[tactic(auto, unfolding(crate::specs::Drain::drained_of))]
+    pub fn drain(&mut self, t: usize)
+        requires { Drainable self.old t }
+        ensures { self.new ≡ drained_of self.old t }
+    {
+        let oldest = self.queues[t].pop();
+        self.memory[oldest.cell as usize] = oldest.value;
+    }
+
+    // The same by value.
     pub fn drained(self, t: usize) -> State
         requires { Drainable self t }
         ensures { result ≡ drained_of self t }
     {
-        let mut queues = self.queues;
-        let q = queues[t];
-        let e = q.entries[0];
-        let c = e.cell as usize;
-        let v = e.value;
-        let mut memory = self.memory;
-        memory[c] = v;
-        let p = q.popped();
-        queues[t] = p;
-        let positions = self.positions;
-        let counts = self.counts;
-        let code = self.code;
-        let registers = self.registers;
-        let dirty = self.dirty;
-        let owners = self.owners;
-        let sharing = self.sharing;
-        State {
-            threads: self.threads,
-            cells: self.cells,
-            depth: self.depth,
-            positions: positions,
-            counts: counts,
-            queues: queues,
-            code: code,
-            registers: registers,
-            memory: memory,
-            dirty: dirty,
-            owners: owners,
-            sharing: sharing,
-        }
+        let mut next = self;
+        next.drain(t);
+        next
     }
 }
