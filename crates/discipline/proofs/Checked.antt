@@ -15,8 +15,7 @@ use Rattle.reader.specs.Rules.{pick}
 use Rattle.reader.specs.Case.{read_of}
 use Rattle.reader.specs.Range.{WellFormed}
 use Rattle.reader.proofs.Accepted.{accepted}
-use Rattle.machine.specs.declared.outcome.Ran.{Ran}
-use Rattle.machine.specs.Run.{Answers}
+use Rattle.machine.specs.Run.{Ran, Answers}
 use Rattle.machine.proofs.Runs.{ran_within}
 use Rattle.discipline.specs.declared.check.Answer.{Answer}
 use Rattle.discipline.specs.Run.{Runnable, Items}

@@ -6,9 +6,7 @@ use lib.IntN.{ℤ}
 use Rattle.reader.specs.declared.state.State.{State}
 use Rattle.reader.specs.declared.Reading.{Reading}
 use Rattle.reader.specs.Case.{read_of}
-use Rattle.machine.specs.declared.outcome.Outcome.{Outcome}
-use Rattle.machine.specs.declared.outcome.Ran.{Ran}
-use Rattle.machine.specs.Run.{Answers}
+use Rattle.machine.specs.Run.{Outcome, Ran, Answers}
 use Rattle.discipline.specs.declared.check.Answer.{Answer}
 use Rattle.discipline.specs.Check.{Checks}
 

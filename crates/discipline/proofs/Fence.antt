@@ -10,7 +10,6 @@ use Rattle.reader.specs.Limits.{DEPTH}
 use Rattle.reader.specs.State.{outside_queue, queue_of, position_of}
 use Rattle.reader.specs.Queue.{popped_of}
 use Rattle.reader.specs.Drain.{drained_of}
-use Rattle.machine.specs.declared.outcome.Outcome.{Outcome}
 use Rattle.machine.specs.Action.{action_of, fence, current_of, next_of}
 use Rattle.machine.specs.Effect.{guard, blocked_of, took_of}
 use Rattle.machine.specs.Step.{next_effect}
@@ -25,6 +24,7 @@ use Rattle.discipline.specs.Fence.{AtFence, Waits, now, own_drain, other_takes, 
 use Rattle.discipline.proofs.Turns.{take_item}
 use Rattle.discipline.proofs.Meaning.{judged_as, take_number}
 use Rattle.discipline.proofs.Outcomes.{drain_taken, instruction_taken}
+use Rattle.machine.specs.Run.{Outcome}
 
 -- row t waits at a FENCE with n stores pending
 record Waiting (t n : ℕ) (s : State) : Type 0 where

@@ -7,8 +7,6 @@ use native.Mathlib.Omega.{arith}
 use lib.ListN.{length, take, get_or}
 use lib.Dec.{eqb, leb}
 use lib.IntN.{ℤ}
-use Rattle.machine.specs.declared.outcome.Outcome.{Outcome}
-use Rattle.machine.specs.declared.outcome.Ran.{Ran}
 use borrow.Author.Tests.{not-true, eqb-true, eqb-false, leb-true, leb-false, eq-eqb, ne_eqb}
 use Rattle.reader.specs.declared.state.State.{State}
 use Rattle.reader.specs.State.{queue_of}
@@ -16,7 +14,7 @@ use Rattle.reader.specs.Rules.{pick}
 use Rattle.reader.proofs.Tests.{false_true}
 use Rattle.machine.specs.Action.{Action, read, store, fence, swap, acquire, release, silent, end, next_of}
 use Rattle.machine.specs.Effect.{guard, pends, blocked_of}
-use Rattle.machine.specs.Run.{unless, run_of}
+use Rattle.machine.specs.Run.{Outcome, Ran, unless, run_of}
 use Rattle.machine.specs.Step.{take_step, drain_step}
 use Rattle.discipline.specs.Table.{owned, owns, others, is_local, is_dirty}
 use Rattle.discipline.specs.Rules.{load_breaks, store_breaks, acquire_breaks, release_breaks, broken_of}

@@ -10,9 +10,7 @@ use lib.IntN.{ℤ, pos}
 use borrow.Author.Tests.{eqb-true, eqb-false}
 use Rattle.reader.specs.declared.state.State.{State}
 use Rattle.reader.specs.Rules.{pick, item_fits}
-use Rattle.machine.specs.declared.outcome.Outcome.{Outcome}
-use Rattle.machine.specs.declared.outcome.Ran.{Ran}
-use Rattle.machine.specs.Run.{refused_of, taken_of, unless, run_of, values_of, Answers}
+use Rattle.machine.specs.Run.{Outcome, Ran, refused_of, taken_of, unless, run_of, values_of, Answers}
 use Rattle.machine.specs.Step.{drain_step}
 use Rattle.discipline.specs.Run.{Items}
 use Rattle.discipline.specs.Step.{checked_take, checked_of}

@@ -6,10 +6,9 @@ use lib.IntN.{pos}
 use Rattle.reader.specs.declared.state.State.{State}
 use Rattle.reader.specs.State.{queue_of}
 use Rattle.reader.specs.Drain.{drained_of}
-use Rattle.machine.specs.declared.outcome.Outcome.{Outcome}
 use Rattle.machine.specs.Action.{current_of, next_of}
 use Rattle.machine.specs.Effect.{blocked_of, took_of}
-use Rattle.machine.specs.Run.{taken_of}
+use Rattle.machine.specs.Run.{Outcome, taken_of}
 use Rattle.machine.specs.Step.{next_effect}
 use Rattle.discipline.specs.Table.{holding_of}
 use Rattle.discipline.specs.Step.{next_broken, next_marks, checked_take, checked_of}

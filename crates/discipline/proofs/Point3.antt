@@ -14,8 +14,7 @@ use Rattle.reader.specs.Limits.{THREADS, REGISTERS}
 use Rattle.reader.specs.State.{queue_of, register_of, position_of}
 use Rattle.reader.specs.Queue.{pending}
 use Rattle.reader.specs.Rules.{pick, item_fits}
-use Rattle.machine.specs.declared.outcome.Outcome.{Outcome}
-use Rattle.machine.specs.Run.{run_of, values_of}
+use Rattle.machine.specs.Run.{Outcome, run_of, values_of}
 use Rattle.machine.specs.Plain.{plain_of}
 use Rattle.machine.proofs.Take.{by_kind}
 use Rattle.discipline.specs.Run.{Runnable, Items}

@@ -26,7 +26,7 @@ use Rattle.machine.specs.declared.effect.Effect.{Effect}
 use Rattle.machine.specs.Integer.{eq_z}
 use Rattle.machine.specs.Buffer.{forwarded, after_of}
 use Rattle.machine.specs.Action.{Action, read, store, fence, swap, acquire, release, silent, end, LOCAL, action_of, current_of, next_of}
-use Rattle.machine.specs.Effect.{cell_of, seen_of, blocked_of, effect_of, took_of}
+use Rattle.machine.specs.Effect.{cell_of, seen_of, blocked_of, effect_of, took_of, pushes, pushed_value}
 use Rattle.machine.specs.Run.{taken_of}
 use Rattle.machine.specs.Step.{next_effect}
 use Rattle.machine.proofs.Ten.{ten}
@@ -128,7 +128,7 @@ module _ {s : State} (g : Runnable s) {t : ℕ} (h : t < s.threads) (l : positio
     abbrev result : Action → Machine Local
     result a =
         with_thread W t (record { row = t; at = (eff a).next; registers = upd (registers_of s t) r (eff a).content; log = noted (logs t) (position_of s t) a (eff a).value })
-        (pending (after_of q (eff a).pushes (record { value = (eff a).pushed; cell = i.cell }))) (not (eqb (mk a).dirty 0))
+        (pending (after_of q (pushes (eff a)) (record { value = pushed_value (eff a); cell = i.cell }))) (not (eqb (mk a).dirty 0))
         (enter (table_map s) c (mk a).owner (eqb (mk a).sharing LOCAL)) (upd (memory_map s) c (eff a).word)
 
     -- a thread that only moves on, by an action a

@@ -17,7 +17,7 @@ use Rattle.reader.specs.Rules.{item_fits}
 use Rattle.machine.specs.declared.effect.Effect.{Effect}
 use Rattle.machine.specs.Action.{current_of, next_of}
 use Rattle.machine.specs.Buffer.{after_of}
-use Rattle.machine.specs.Effect.{cell_of, guard, took_of}
+use Rattle.machine.specs.Effect.{cell_of, guard, took_of, pushes, pushed_value}
 use Rattle.machine.specs.Run.{refused_of, taken_of, unless}
 use Rattle.machine.specs.Step.{drain_step}
 use Rattle.machine.proofs.Take.{drain_row, take_row, room}
@@ -69,8 +69,8 @@ module _ {m₀ s : State} (g : Good m₀ s) where
       unfolding holding_of took_of
       good_took = rw (decided_same g.runnable.in_range l p ei eb ed, ei) (record { runnable = took_sound g.runnable l p (unblocked g.runnable.in_range l p ei eb ed z); threads = g.threads })
 
-      pub good_room : d.effect.pushes ≡ true → (queue_of s t).count < s.depth
-      good_room w = room _ s.depth (queue_of s t) (next_of s t) (unblocked g.runnable.in_range l p ei eb ed z) (sym (ap (λ (x : Decision). x.effect.pushes) (decided_same g.runnable.in_range l p ei eb ed)) ∙ w)
+      pub good_room : pushes d.effect ≡ true → (queue_of s t).count < s.depth
+      good_room w = room _ s.depth (queue_of s t) (next_of s t) (unblocked g.runnable.in_range l p ei eb ed z) (sym (ap (λ (x : Decision). pushes x.effect) (decided_same g.runnable.in_range l p ei eb ed)) ∙ w)
 
 -- the stores of the code, one by one, make the state that was decided
 module _ {P : State → Type 0} {m₀ : State} {xs : List ℕ} {vs₀ : List ℤ} {n : ℕ} (s : State) (t : ℕ) (k : ℕ) (vs : List ℤ) where
@@ -80,7 +80,7 @@ module _ {P : State → Type 0} {m₀ : State} {xs : List ℕ} {vs₀ : List ℤ
 
   pub took_placed : (i : Instruction) (e : Effect) (h : Held) {c r : ℕ} {word content value : ℤ} {queues : List Queue} {dirty owners sharing : List ℕ} →
       c ≡ cell_of i → r ≡ register_place t i.register → word ≡ e.word → content ≡ e.content → value ≡ e.value →
-      queues ≡ set s.queues t (after_of (queue_of s t) e.pushes (record { value = e.pushed; cell = i.cell })) →
+      queues ≡ set s.queues t (after_of (queue_of s t) (pushes e) (record { value = pushed_value e; cell = i.cell })) →
       dirty ≡ flags_with s.dirty t h.dirty → owners ≡ owners_with s.owners c h.owner → sharing ≡ sharing_with s.sharing c h.sharing →
       Going checked_of P m₀ xs vs₀ (holding_of (took_of s t i e) t i h) n (set vs k e.value) →
       Going checked_of P m₀ xs vs₀ (record { threads = s.threads; cells = s.cells; depth = s.depth; positions = set s.positions t e.next; counts = s.counts; queues = queues; code = s.code; registers = set s.registers r content; memory = set s.memory c word; dirty = dirty; owners = owners; sharing = sharing }) n (set vs k value)
@@ -94,9 +94,9 @@ set_same (x ∷ xs) zero d = refl
 set_same {A = A} (x ∷ xs) (suc i) d = ap (λ (l : List A). x ∷ l) (set_same xs i d)
 
 module _ (s : State) (t : ℕ) (i : Instruction) (e : Effect) where
-  pub row_kept : e.pushes ≡ false → s.queues ≡ set s.queues t (after_of (queue_of s t) e.pushes (record { value = e.pushed; cell = i.cell }))
+  pub row_kept : pushes e ≡ false → s.queues ≡ set s.queues t (after_of (queue_of s t) (pushes e) (record { value = pushed_value e; cell = i.cell }))
   row_kept b = rw b (sym (set_same s.queues t outside_queue))
 
-  pub row_pushed : {row : Queue} {value : ℤ} → e.pushes ≡ true → value ≡ e.pushed → row ≡ pushed_of (queue_of s t) (record { value = value; cell = i.cell }) →
-      set s.queues t row ≡ set s.queues t (after_of (queue_of s t) e.pushes (record { value = e.pushed; cell = i.cell }))
+  pub row_pushed : {row : Queue} {value : ℤ} → pushes e ≡ true → value ≡ (pushed_value e) → row ≡ pushed_of (queue_of s t) (record { value = value; cell = i.cell }) →
+      set s.queues t row ≡ set s.queues t (after_of (queue_of s t) (pushes e) (record { value = pushed_value e; cell = i.cell }))
   row_pushed b ev er = rw (b, er, ev) refl

@@ -23,7 +23,7 @@ use Rattle.reader.specs.Range.{Shaped}
 use Rattle.machine.specs.declared.effect.Effect.{Effect}
 use Rattle.machine.specs.Action.{LOCAL}
 use Rattle.machine.specs.Buffer.{after_of}
-use Rattle.machine.specs.Effect.{cell_of, took_of}
+use Rattle.machine.specs.Effect.{cell_of, took_of, pushes, pushed_value}
 use Rattle.machine.proofs.Frame.{took_queue_other, took_position_other, took_register_other, drained_queue_other, drained_pending, took_queue, took_position, took_register}
 use Rattle.discipline.specs.declared.table.Held.{Held}
 use Rattle.discipline.specs.Table.{holding_of}
@@ -84,12 +84,12 @@ module _ {s : State} (g : Shaped s) {t : ℕ} (h : t < THREADS) (i : Instruction
       after = holding_of (took_of s t i e) t i x
 
       abbrev now : Thread Local
-      now = thread (record { row = t; at = e.next; registers = upd (registers_of s t) i.register e.content; log = log }) (pending (after_of (queue_of s t) e.pushes (record { value = e.pushed; cell = i.cell }))) (not (eqb x.dirty 0))
+      now = thread (record { row = t; at = e.next; registers = upd (registers_of s t) i.register e.content; log = log }) (pending (after_of (queue_of s t) (pushes e) (record { value = pushed_value e; cell = i.cell }))) (not (eqb x.dirty 0))
 
       flag_now : dirty_of after t ≡ x.dirty
       flag_now = flag_same (took_of s t i e) t i x (shaped_took g h i e) h
 
-      own_queue : pick (ltb t after.threads) (pending (queue_of after t)) [] ≡ pending (after_of (queue_of s t) e.pushes (record { value = e.pushed; cell = i.cell }))
+      own_queue : pick (ltb t after.threads) (pending (queue_of after t)) [] ≡ pending (after_of (queue_of s t) (pushes e) (record { value = pushed_value e; cell = i.cell }))
       unfolding holding_of took_of
       own_queue = rw (lt-ltb t s.threads there) (ap pending (took_queue g h i e))
 

@@ -7,10 +7,8 @@ use Rattle.reader.specs.Limits.{THREADS}
 use Rattle.reader.specs.State.{queue_of, position_of}
 use Rattle.reader.specs.Rules.{pick}
 use Rattle.reader.specs.Case.{read_of}
-use Rattle.machine.specs.declared.outcome.Outcome.{Outcome}
-use Rattle.machine.specs.declared.outcome.Ran.{Ran}
 use Rattle.machine.specs.Action.{Action, read, store, fence, swap, acquire, release, silent, end, next_of}
-use Rattle.machine.specs.Run.{run_of, values_of}
+use Rattle.machine.specs.Run.{Outcome, Ran, run_of, values_of}
 use Rattle.machine.specs.Plain.{plain_of}
 use Rattle.discipline.specs.Step.{checked_of}
 use Rattle.discipline.specs.declared.check.Answer.{Answer}

@@ -3,9 +3,8 @@ use Rattle.std.specs.Prelude.{ℕ, ◌-◌, Bool, leb}
 use Rattle.reader.specs.declared.state.State.{State}
 use Rattle.reader.specs.State.{queue_of}
 use Rattle.reader.specs.Rules.{pick}
-use Rattle.machine.specs.declared.outcome.Outcome.{Outcome}
 use Rattle.machine.specs.Action.{current_of, next_of}
-use Rattle.machine.specs.Run.{taken_of, unless}
+use Rattle.machine.specs.Run.{Outcome, taken_of, unless}
 use Rattle.machine.specs.Step.{take_step, drain_step}
 use Rattle.discipline.specs.declared.table.Held.{Held}
 use Rattle.discipline.specs.Table.{held_in, holding_of}

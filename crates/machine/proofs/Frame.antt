@@ -10,7 +10,7 @@ use Rattle.reader.specs.Range.{Shaped}
 use Rattle.reader.proofs.Row.{pending_popped}
 use Rattle.machine.specs.declared.effect.Effect.{Effect}
 use Rattle.machine.specs.Buffer.{after_of}
-use Rattle.machine.specs.Effect.{took_of}
+use Rattle.machine.specs.Effect.{took_of, pushes, pushed_value}
 
 -- the rows of another thread
 module _ (s : State) (t u : ℕ) (ne : u ≡ t → ⊥) where
@@ -60,7 +60,7 @@ module _ {s : State} (g : Shaped s) {t : ℕ} (h : t < THREADS) where
   unfolding drained_of
   drained_memory_other c ne = get_or-set_other s.memory (oldest_of s t).cell c (oldest_of s t).value (pos 0) ne
 
-  pub took_queue : (i : Instruction) (e : Effect) → queue_of (took_of s t i e) t ≡ after_of (queue_of s t) e.pushes (record { value = e.pushed; cell = i.cell })
+  pub took_queue : (i : Instruction) (e : Effect) → queue_of (took_of s t i e) t ≡ after_of (queue_of s t) (pushes e) (record { value = pushed_value e; cell = i.cell })
   unfolding took_of
   took_queue i e = let l = g.queues in get_or-set_same s.queues t _ outside_queue (omega arith)
 

@@ -6,10 +6,9 @@ use Rattle.reader.specs.Rules.{pick, item_fits}
 use Rattle.reader.specs.Drain.{drained_of}
 use Rattle.reader.specs.Range.{InRange}
 use Rattle.reader.proofs.Tests.{false_true}
-use Rattle.machine.specs.declared.outcome.Outcome.{Outcome}
 use Rattle.machine.specs.Action.{action_of, current_of, next_of}
 use Rattle.machine.specs.Effect.{seen_of, guard, blocked_of, effect_of, took_of}
-use Rattle.machine.specs.Run.{unless}
+use Rattle.machine.specs.Run.{Outcome, unless}
 use Rattle.machine.specs.Step.{next_effect, take_step, drain_step, step_of}
 use Rattle.machine.specs.Plain.{at_once, ended_of, plain_effect, plain_step}
 use Rattle.machine.proofs.Take.{current_in, end_step, drain_row, take_row, room}

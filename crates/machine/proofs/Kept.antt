@@ -10,7 +10,7 @@ use Rattle.reader.specs.Drain.{drained_of}
 use Rattle.reader.specs.Range.{InRange}
 use Rattle.machine.specs.declared.effect.Effect.{Effect}
 use Rattle.machine.specs.Buffer.{after_of}
-use Rattle.machine.specs.Effect.{took_of}
+use Rattle.machine.specs.Effect.{took_of, pushes, pushed_value}
 
 -- what holds of every element, by its place, holds after a store that it holds of
 module _ {A : Type 0} (d : A) where
@@ -91,11 +91,11 @@ module _ {s : State} (g : InRange s) {t : ℕ} (h : t < s.threads) where
         position = g.position;
       }
 
-  module _ (i : Instruction) (e : Effect) (goes : e.next ≤ count_of s t) (room : e.pushes ≡ true → (queue_of s t).count < s.depth) (there : e.pushes ≡ true → i.cell < s.cells) where
+  module _ (i : Instruction) (e : Effect) (goes : e.next ≤ count_of s t) (room : pushes e ≡ true → (queue_of s t).count < s.depth) (there : pushes e ≡ true → i.cell < s.cells) where
     pub in_took : InRange (took_of s t i e)
     unfolding took_of
     in_took =
-        let r = row_set (after_of (queue_of s t) e.pushes (record { value = e.pushed; cell = i.cell })) (row_after some_cells_lem (rows t h) e.pushes (record { value = e.pushed; cell = i.cell }) room there) in
+        let r = row_set (after_of (queue_of s t) (pushes e) (record { value = pushed_value e; cell = i.cell })) (row_after some_cells_lem (rows t h) (pushes e) (record { value = pushed_value e; cell = i.cell }) room there) in
         record {
           some_threads = g.some_threads;
           threads = g.threads;

@@ -2,9 +2,9 @@
 use Rattle.std.proofs.Common.{◌≡◌, ℕ, ◌-◌, ◌<◌, List, length, get_or, ◌∙◌, arith}
 use Rattle.reader.specs.declared.state.State.{State}
 use Rattle.reader.specs.Range.{InRange}
-use Rattle.machine.specs.declared.outcome.Outcome.{Outcome}
 use Rattle.machine.specs.Plain.{Threads, plain_step}
 use Rattle.machine.proofs.InRange.{plain_step_in, plain_threads}
+use Rattle.machine.specs.Run.{Outcome}
 
 pub record Good (m₀ s : State) : Type 0 where
   pub in_range : InRange s

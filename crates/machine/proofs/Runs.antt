@@ -3,8 +3,7 @@ use Rattle.std.proofs.Common.{◌≡◌, ℕ, suc, ◌+◌, ◌<◌, ◌≤◌, 
 use lib.Seq.{append_snoc}
 use Rattle.reader.specs.declared.state.State.{State}
 use Rattle.reader.specs.Rules.{pick}
-use Rattle.machine.specs.declared.outcome.Outcome.{Outcome}
-use Rattle.machine.specs.Run.{run_of, values_of, Answers}
+use Rattle.machine.specs.Run.{Outcome, run_of, values_of, Answers}
 
 -- k items were taken: the rest of the run from here has the answer, and the values so far stand in front
 pub record Going (step : State → ℕ → Outcome) (P : State → Type 0) (m₀ : State) (xs : List ℕ) (vs₀ : List ℤ) (m : State) (k : ℕ) (vs : List ℤ) : Type 0 where

@@ -12,7 +12,7 @@ use Rattle.reader.specs.Range.{Shaped}
 use Rattle.reader.proofs.Row.{length_popped, length_pushed}
 use Rattle.machine.specs.declared.effect.Effect.{Effect}
 use Rattle.machine.specs.Buffer.{after_of}
-use Rattle.machine.specs.Effect.{took_of}
+use Rattle.machine.specs.Effect.{took_of, pushes, pushed_value}
 use Rattle.machine.proofs.Kept.{all_set}
 
 length_after : (q : Queue) (b : Bool) (e : Pending) → length (after_of q b e).entries ≡ length q.entries
@@ -46,7 +46,7 @@ module _ {s : State} (g : Shaped s) {t : ℕ} (h : t < THREADS) where
     positions = simp length-set g.positions;
     counts = g.counts;
     queues = simp length-set g.queues;
-    entries = entries_set (after_of (queue_of s t) e.pushes (record { value = e.pushed; cell = i.cell })) (length_after (queue_of s t) e.pushes (record { value = e.pushed; cell = i.cell }));
+    entries = entries_set (after_of (queue_of s t) (pushes e) (record { value = pushed_value e; cell = i.cell })) (length_after (queue_of s t) (pushes e) (record { value = pushed_value e; cell = i.cell }));
     code = g.code;
     registers = simp length-set g.registers;
     memory = simp length-set g.memory;

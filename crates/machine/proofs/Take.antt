@@ -1,5 +1,6 @@
 -- The next instruction of a thread: what the code looks at, decides and stores is the step of the definition.
-use Rattle.std.proofs.Common.{◌≡◌, ℕ, zero, suc, ◌+◌, ◌-◌, ◌<◌, ◌≤◌, Bool, true, false, ◌||◌, eqb, leb, ◌⊎◌, List, ℤ, sym, refl, ap, ◌∙◌, subst, inl, inr, ⊎_elim, arith, le-ltb, lt-ltb, leb-false, leb-true}
+use Rattle.std.specs.Prelude.{IsSome}
+use Rattle.std.proofs.Common.{◌≡◌, ℕ, zero, suc, ◌+◌, ◌-◌, ◌<◌, ◌≤◌, Bool, true, false, ◌||◌, eqb, leb, ◌⊎◌, sym, refl, ◌∙◌, subst, inl, inr, ⊎_elim, arith, le-ltb, lt-ltb, leb-false, leb-true}
 use borrow.Author.Tests.{eqb-false}
 use Rattle.reader.specs.declared.state.Queue.{Queue}
 use Rattle.reader.specs.declared.state.Instruction.{Instruction}
@@ -13,12 +14,15 @@ use Rattle.reader.proofs.Tests.{false_true, within_true}
 use Rattle.reader.proofs.Instructions.{InstructionIn, instruction_in}
 use Rattle.machine.specs.declared.effect.Seen.{Seen}
 use Rattle.machine.specs.declared.effect.Effect.{Effect}
-use Rattle.machine.specs.declared.outcome.Outcome.{Outcome}
 use Rattle.machine.specs.Action.{Action, read, store, fence, swap, acquire, release, silent, end, action_of, current_of, next_of}
-use Rattle.machine.specs.Effect.{cell_of, seen_of, guard, blocked_of, effect_of, took_of}
-use Rattle.machine.specs.Look.{Lookable, looked_of}
-use Rattle.machine.specs.Run.{refused_of, taken_of, unless}
-use Rattle.machine.specs.Step.{take_step}
+use Rattle.machine.specs.Effect.{cell_of, seen_of, guard, blocked_of, effect_of, took_of, pushes}
+use Rattle.machine.specs.Look.{Lookable}
+use Rattle.machine.specs.Run.{Outcome, refused_of, taken_of, unless}
+use Rattle.machine.specs.declared.outcome.Hurdle.{Hurdle}
+use Rattle.machine.specs.declared.outcome.Hurdle.TheVariants.{AtEnd, Waits, Full, Empty}
+use Rattle.machine.specs.declared.step.Next.{Next}
+use Rattle.machine.specs.Hurdle.{number_of}
+use Rattle.machine.specs.Step.{IsNext, IsEnded, Ready, take_step}
 
 pub unless_zero : {n : ℕ} (s : State) (o : Outcome) → n ≡ 0 → unless n s o ≡ o
 unfolding unless
@@ -98,7 +102,7 @@ by_kind threads k P drains takes x f = go (leb 17 x) refl
         subst P q (takes (x - 1) r.1)
 
 -- a store is the only action that puts something into the buffer
-pub room : (v : Seen) (depth : ℕ) (q : Queue) (a : Action) → blocked_of depth q a ≡ 0 → (effect_of v q a).pushes ≡ true → q.count < depth
+pub room : (v : Seen) (depth : ℕ) (q : Queue) (a : Action) → blocked_of depth q a ≡ 0 → pushes (effect_of v q a) ≡ true → q.count < depth
 unfolding blocked_of effect_of guard
 room v depth q (read c) z b = absurd (false_true b)
 room v depth q (store c x) z b = go (leb depth q.count) refl z
@@ -122,36 +126,57 @@ pub end_step : (s : State) (t : ℕ) → count_of s t ≤ position_of s t → re
 unfolding take_step blocked_of unless
 end_step s t h = rw (next_end s t h)
 
-pub looked_at : (memory registers : List ℤ) (t at : ℕ) (i : Instruction) {v : Seen} → v ≡ looked_of memory registers t at i → v.at ≡ at
-unfolding looked_of
-looked_at memory registers t at i e = ap (λ (x : Seen). x.at) e
-
--- an instruction i, found at the position, which sees v
-module _ (s : State) (t : ℕ) {i : Instruction} {v : Seen} (l : position_of s t < count_of s t) (ei : i ≡ current_of s t) (ev : v ≡ looked_of s.memory s.registers t (position_of s t) i) where
-  pub seen_same : v ≡ seen_of s t (current_of s t)
-  unfolding looked_of seen_of
-  seen_same = ev ∙ rw ei
-
-  pub next_action : action_of i v.at v.content ≡ next_of s t
+-- what row t finds, where its program goes on
+module _ (s : State) (t : ℕ) (l : position_of s t < count_of s t) where
+  pub next_action : action_of (current_of s t) (position_of s t) (seen_of s t (current_of s t)).content ≡ next_of s t
   unfolding next_of seen_of
-  next_action = rw (seen_same, ei, lt-ltb _ _ l)
+  next_action = rw (lt-ltb _ _ l) refl
 
-  module _ {n : ℕ} (en : n ≡ blocked_of s.depth (queue_of s t) (action_of i v.at v.content)) where
-    blocked_same : n ≡ blocked_of s.depth (queue_of s t) (next_of s t)
-    blocked_same = en ∙ rw next_action
+  pub found_next : {i : Instruction} {v : Seen} {a : Action} → i ≡ current_of s t → v ≡ seen_of s t i → a ≡ action_of i (position_of s t) v.content → IsNext s t (record { instruction = i; seen = v; action = a })
+  found_next ei ev ea = record { found = rw (ea, ev, ei, next_action) refl; goes = l }
 
-    pub blocked_step : (n ≡ 0 → ⊥) → refused_of s n ≡ take_step s t
-    unfolding take_step
-    blocked_step z = rw (← blocked_same) (sym (unless_not n s _ z))
+-- a hurdle's number is never that of an item that is taken
+pub hurdle_nonzero : (h : Hurdle) → number_of h ≡ 0 → ⊥
+hurdle_nonzero AtEnd e = omega arith
+hurdle_nonzero Waits e = omega arith
+hurdle_nonzero Full e = omega arith
+hurdle_nonzero Empty e = omega arith
 
-    module _ {e : Effect} (z : n ≡ 0) (ee : e ≡ effect_of v (queue_of s t) (action_of i v.at v.content)) where
-      pub effect_same : e ≡ effect_of (seen_of s t (current_of s t)) (queue_of s t) (next_of s t)
-      effect_same = ee ∙ rw (next_action, seen_same)
+-- what holds row t back gives the number of its step
+pub ended_step : {s : State} {t : ℕ} {h : Hurdle} → IsEnded s t h → refused_of s (number_of h) ≡ take_step s t
+unfolding take_step blocked_of unless
+ended_step e = rw (e.hurdle, e.ended) refl
 
-      pub took_step : {m : State} → m ≡ took_of s t i e → taken_of m e.value ≡ take_step s t
-      unfolding take_step
-      took_step em = rw (em, ei, effect_same) (sym (unless_zero s _ (sym blocked_same ∙ z)))
+module _ {s : State} {t : ℕ} {n : Next} (x : IsNext s t n) where
+  -- it is the action of a known instruction
+  pub found_action : action_of (current_of s t) (position_of s t) (seen_of s t (current_of s t)).content ≡ next_of s t
+  found_action = next_action s t x.goes
 
-      -- a store that is taken finds room
-      pub took_room : e.pushes ≡ true → (queue_of s t).count < s.depth
-      took_room b = room v s.depth (queue_of s t) (action_of i v.at v.content) (sym en ∙ z) (sym (ap (λ (x : Effect). x.pushes) ee) ∙ b)
+  pub held_step : (h : Hurdle) → number_of h ≡ blocked_of s.depth (queue_of s t) n.action → refused_of s (number_of h) ≡ take_step s t
+  unfolding take_step
+  held_step h e =
+      let q : number_of h ≡ blocked_of s.depth (queue_of s t) (next_of s t) = e ∙ rw x.found refl in
+      rw (← q) (sym (unless_not _ s _ (hurdle_nonzero h)))
+
+  pub took_step : {e : Effect} {m : State} → blocked_of s.depth (queue_of s t) n.action ≡ 0 → e ≡ effect_of n.seen (queue_of s t) n.action → m ≡ took_of s t n.instruction e → taken_of m e.value ≡ take_step s t
+  unfolding take_step
+  took_step z ee em =
+      let y : blocked_of s.depth (queue_of s t) (next_of s t) ≡ 0 = rw x.found at z in
+      rw (em, ee, x.found) (sym (unless_zero s _ y))
+
+module _ {s : State} (g : InRange s) {t : ℕ} (h : t < s.threads) {n : Next} (x : IsNext s t n) where
+  pub found_position : n.seen.at < INSTRUCTIONS
+  unfolding seen_of
+  found_position = rw x.found (position_below g h x.goes)
+
+  pub found_lookable : Lookable t n.instruction
+  found_lookable = rw x.found (current_lookable g h x.goes refl)
+
+module _ {s : State} {t : ℕ} {n : Next} (r : Ready s t n) where
+  -- a store that is taken finds room
+  pub ready_room : {e : Effect} → e ≡ effect_of n.seen (queue_of s t) n.action → IsSome e.pushed → (queue_of s t).count < DEPTH
+  ready_room {e} ee p =
+      let w : pushes (effect_of n.seen (queue_of s t) n.action) ≡ true = rw (← ee) p in
+      let k = room n.seen s.depth (queue_of s t) n.action r.free w in
+      let d = r.in_range.depth in
+      omega arith

@@ -7,7 +7,7 @@ use Rattle.reader.proofs.Tests.{false_true}
 use Rattle.reader.proofs.Instructions.{InstructionIn}
 use Rattle.machine.specs.declared.effect.Seen.{Seen}
 use Rattle.machine.specs.Integer.{eq_z}
-use Rattle.machine.specs.Effect.{effect_of}
+use Rattle.machine.specs.Effect.{effect_of, pushes}
 use Rattle.machine.specs.Plain.{ended_of}
 use Rattle.machine.specs.Action.{Action, action_of, end}
 
@@ -78,10 +78,10 @@ module _ {cells count : ℕ} {i : Instruction} (g : InstructionIn cells count i)
         target false h l e = omega arith
 
     -- what is put into the buffer is to a cell
-    pub effect_there : (effect_of v q (action_of i at x)).pushes ≡ true → i.cell < cells
+    pub effect_there : pushes (effect_of v q (action_of i at x)) ≡ true → i.cell < cells
     unfolding action_of effect_of
     effect_there b =
         g.cell
-        (ten (λ (n : ℕ) (a : Action). (effect_of v q a).pushes ≡ true → n ≡ BRANCH → ⊥) _ _ _ _ _ _ _ _ _ _
+        (ten (λ (n : ℕ) (a : Action). pushes (effect_of v q a) ≡ true → n ≡ BRANCH → ⊥) _ _ _ _ _ _ _ _ _ _
         (λ b e. omega arith) (λ b e. omega arith) (λ b e. omega arith) (λ b e. omega arith) (λ b e. omega arith) (λ b e. omega arith) (λ b e. omega arith) (λ b e. omega arith) (λ b e. false_true b) (λ b e. omega arith)
         i.operation g.known g.last b)

@@ -5,23 +5,9 @@ use Rattle.reader.specs.declared.state.Instruction.{Instruction}
 use Rattle.reader.specs.declared.state.State.{State}
 use Rattle.reader.specs.State.{position_of, count_of, instruction_of, register_of}
 use Rattle.reader.specs.Rules.{pick}
+pub use Rattle.machine.specs.declared.action.Action.{Action}
+pub use Rattle.machine.specs.declared.action.Action.TheVariants.{Read as read, Store as store, Fence as fence, Swap as swap, Acquire as acquire, Release as release, Silent as silent, End as end}
 use Rattle.machine.specs.Integer.{eq_z, sum_of}
-
-pub data Action : Type 0 where
-  -- of a cell, into the register
-  read : ℕ → Action
-  -- to a cell, of a value
-  store : ℕ → ℤ → Action
-  fence : Action
-  -- of a cell: it is compared with the old content of the register, and gets the value where they are equal
-  swap : ℕ → ℤ → ℤ → Action
-  -- of a cell, with the sharing mark that it gets
-  acquire : ℕ → ℕ → Action
-  release : ℕ → Action
-  -- nothing but the thread's own position and register: where it goes, what the register then holds
-  silent : ℕ → ℤ → Action
-  -- the program is at its end
-  end : Action
 
 -- "(1 shared, 0 local)"
 abbrev pub SHARED : ℕ

@@ -1,10 +1,15 @@
 -- Looking into a buffer, on its row as it stands: from the newest pending store back.
-use Rattle.std.specs.Prelude.{ℕ, zero, suc, Bool, List, ℤ, ◌==◌, slice_index_or}
+use Rattle.std.specs.Prelude.{ℕ, zero, suc, Bool, List, Option, option_map, ℤ, ◌==◌, slice_index_or, reverse}
+use Rattle.std.specs.List.{find}
 use Rattle.reader.specs.declared.state.Pending.{Pending}
 use Rattle.reader.specs.declared.state.Queue.{Queue}
 use Rattle.reader.specs.State.{no_pending}
 use Rattle.reader.specs.Queue.{pushed_of}
 use Rattle.reader.specs.Rules.{pick}
+
+-- the value of the newest of these stores that is to cell c
+abbrev pub newest_in : List Pending → ℕ → Option ℤ
+newest_in es c = option_map (λ (e : Pending). e.value) (find (λ (e : Pending). e.cell == c) (reverse es))
 
 -- the newest of the first n entries that is to cell c, or else d
 unfoldable pub newest_of : List Pending → ℕ → ℕ → ℤ → ℤ

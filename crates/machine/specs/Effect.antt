@@ -1,5 +1,5 @@
 -- What an action finds, and what it then does to its thread's register and position, to memory and to its buffer.
-use Rattle.std.specs.Prelude.{ℕ, ◌+◌, Bool, true, false, not, ℤ, pos, ◌==◌, nat_le, slice_set}
+use Rattle.std.specs.Prelude.{ℕ, ◌+◌, None, Some, Bool, true, false, not, is_some, unwrap_or, ℤ, pos, ◌==◌, nat_le, slice_set}
 use Rattle.reader.specs.declared.state.Queue.{Queue}
 use Rattle.reader.specs.declared.state.Instruction.{Instruction}
 use Rattle.reader.specs.declared.state.State.{State}
@@ -38,20 +38,27 @@ blocked_of depth q (release c) = 0
 blocked_of depth q (silent n x) = 0
 blocked_of depth q end = 20
 
+-- whether an effect puts something into the buffer, and what
+abbrev pub pushes : Effect → Bool
+pushes e = is_some e.pushed
+
+abbrev pub pushed_value : Effect → ℤ
+pushed_value e = unwrap_or e.pushed (pos 0)
+
 module _ (v : Seen) where
   -- one that only moves on
   abbrev pub quiet_of : Effect
-  quiet_of = record { next = v.at + 1; value = pos 0; content = v.content; word = v.word; pushed = pos 0; pushes = false }
+  quiet_of = record { next = v.at + 1; value = pos 0; content = v.content; word = v.word; pushed = None }
 
   -- a value read, which the register gets, and the word that then stands in memory
   abbrev pub reads_of : ℤ → ℤ → Effect
-  reads_of x word = record { next = v.at + 1; value = x; content = x; word = word; pushed = pos 0; pushes = false }
+  reads_of x word = record { next = v.at + 1; value = x; content = x; word = word; pushed = None }
 
   unfoldable pub effect_of : Queue → Action → Effect
   -- "LOAD puts into the register the newest pending store to that cell in the thread's own buffer, or else the memory's value."
   effect_of q (read c) = reads_of (forwarded q c v.word) v.word
   -- "STORE appends to the own buffer."
-  effect_of q (store c x) = record { next = v.at + 1; value = pos 0; content = v.content; word = v.word; pushed = x; pushes = true }
+  effect_of q (store c x) = record { next = v.at + 1; value = pos 0; content = v.content; word = v.word; pushed = Some x }
   -- "FENCE, with the own buffer empty, changes no value."
   effect_of q fence = quiet_of
   -- "COMPARE-SWAP, with the own buffer empty, reads memory; if that equals the register's old content, the value is stored straight to memory;
@@ -59,7 +66,7 @@ module _ (v : Seen) where
   effect_of q (swap c old x) = reads_of v.word (pick (eq_z v.word old) x v.word)
   effect_of q (acquire c mark) = quiet_of
   effect_of q (release c) = quiet_of
-  effect_of q (silent n x) = record { next = n; value = pos 0; content = x; word = v.word; pushed = pos 0; pushes = false }
+  effect_of q (silent n x) = record { next = n; value = pos 0; content = x; word = v.word; pushed = None }
   effect_of q end = quiet_of
 
 -- the state after instruction i of row t with an effect
@@ -70,7 +77,7 @@ took_of s t i e = record {
   depth = s.depth;
   positions = slice_set s.positions t e.next;
   counts = s.counts;
-  queues = slice_set s.queues t (after_of (queue_of s t) e.pushes (record { value = e.pushed; cell = i.cell }));
+  queues = slice_set s.queues t (after_of (queue_of s t) (pushes e) (record { value = pushed_value e; cell = i.cell }));
   code = s.code;
   registers = slice_set s.registers (register_place t i.register) e.content;
   memory = slice_set s.memory (cell_of i) e.word;

@@ -4,6 +4,7 @@ pub mod Action
 pub mod Effect
 pub mod Look
 pub mod Run
+pub mod Hurdle
 pub mod Step
 pub mod Plain
 pub mod Forward

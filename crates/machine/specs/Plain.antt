@@ -1,17 +1,16 @@
 -- The one-memory machine: the same actions on a state whose buffers are not used. An order names threads, from 1 on.
-use Rattle.std.specs.Prelude.{ℕ, ◌-◌, ◌<◌, ◌≤◌, false, List, length, pos, slice_index}
+use Rattle.std.specs.Prelude.{ℕ, None, ◌-◌, ◌<◌, ◌≤◌, List, length, slice_index}
 use Rattle.reader.specs.declared.state.State.{State}
 use Rattle.reader.specs.State.{no_queue}
 use Rattle.reader.specs.Rules.{pick}
 use Rattle.machine.specs.declared.effect.Effect.{Effect}
-use Rattle.machine.specs.declared.outcome.Outcome.{Outcome}
 use Rattle.machine.specs.Action.{Action, read, store, fence, swap, acquire, release, silent, end, current_of, next_of}
-use Rattle.machine.specs.Effect.{seen_of, effect_of, took_of}
-use Rattle.machine.specs.Run.{taken_of, unless}
+use Rattle.machine.specs.Effect.{pushes, pushed_value, seen_of, effect_of, took_of}
+use Rattle.machine.specs.Run.{Outcome, taken_of, unless}
 
 -- "In the one-memory machine a STORE writes memory at once"
 unfoldable pub at_once : Effect → Effect
-at_once e = record { next = e.next; value = e.value; content = e.content; word = pick e.pushes e.pushed e.word; pushed = pos 0; pushes = false }
+at_once e = record { next = e.next; value = e.value; content = e.content; word = pick (pushes e) (pushed_value e) e.word; pushed = None }
 
 -- "and FENCE, ACQUIRE and RELEASE only advance": nothing is held back but at the end of a program
 unfoldable pub ended_of : Action → ℕ

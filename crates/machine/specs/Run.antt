@@ -2,8 +2,18 @@
 use Rattle.std.specs.Prelude.{◌≡◌, ℕ, zero, suc, List, [], ◌∷◌, ◌++◌, drop, ℤ, pos, ◌==◌}
 use Rattle.reader.specs.declared.state.State.{State}
 use Rattle.reader.specs.Rules.{pick}
-use Rattle.machine.specs.declared.outcome.Outcome.{Outcome}
-use Rattle.machine.specs.declared.outcome.Ran.{Ran}
+
+-- a step: the next state and what was read; or the number that holds the item back, and the state as it was
+pub record Outcome : Type 0 where
+  pub state : State
+  pub number : ℕ
+  pub value : ℤ
+
+-- a run: how many items were taken, the state then, and the number of the item that was not, or 0
+pub record Ran : Type 0 where
+  pub state : State
+  pub place : ℕ
+  pub number : ℕ
 
 -- an item that is not taken: its number, and the state as it was
 abbrev pub refused_of : State → ℕ → Outcome

@@ -1,35 +1,21 @@
-// Looking into a buffer, and the row after an instruction.
-ghost use Rattle.std.specs.Prelude.{◌≡◌, ◌<◌, ◌≤◌, true};
+// Looking into a buffer: from its newest pending store back.
+ghost use Rattle.std.specs.Prelude.{◌≡◌, ◌≤◌};
 ghost use Rattle.reader.specs.Limits.{DEPTH};
-ghost use Rattle.machine.specs.Buffer.{forwarded, after_of};
+ghost use Rattle.machine.specs.Buffer.{newest_in, forwarded};
 
 use reader::state::{Pending, Queue};
 
-// The newest pending store to a cell, or else the word in memory.
-#[tactic(auto, using(crate::proofs::Newest::newest_hit, crate::proofs::Newest::newest_pass), unfolding(crate::specs::Buffer::newest_of))]
-pub fn newest(q: Queue, cell: u32, word: i32) -> i32
-    requires { q.count ≤ DEPTH }
-    ensures { result ≡ forwarded q cell word }
+// The value of the newest of these stores that is to a cell.
+pub fn newest(pending: &[Pending], cell: u32) -> Option<i32>
+    ensures { result ≡ newest_in pending.now cell }
 {
-    let mut n = q.count;
-    while 0 < n {
-        let k = n - 1;
-        let e = q.entries[k];
-        if e.cell == cell {
-            return e.value;
-        }
-        n = k;
-    }
-    word
+    pending.iter().rev().find(|e| e.cell == cell).map(|e| e.value)
 }
 
-// The row with one more entry where an instruction stores.
-pub fn after(q: Queue, pushes: bool, e: Pending) -> Queue
-    requires { pushes ≡ true → q.count < DEPTH }
-    ensures { result ≡ after_of q pushes e }
+// What a load of the cell gets, whose word in memory is given.
+pub fn forwarded(q: &Queue, cell: u32, word: i32) -> i32
+    requires { q.now.count ≤ DEPTH }
+    ensures { result ≡ forwarded q.now cell word }
 {
-    if pushes {
-        return q.pushed(e);
-    }
-    q
+    newest(q.pending(), cell).unwrap_or(word)
 }

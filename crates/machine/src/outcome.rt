@@ -1,41 +1,31 @@
-// What a step and a run answer with.
+// Why the machine does not take an item, and how a run ends.
 ghost use Rattle.std.specs.Prelude.{◌≡◌};
-ghost use Rattle.machine.specs.Run.{refused_of, taken_of};
+ghost use Rattle.machine.specs.Hurdle.{number_of};
 
-use reader::state::State;
-
-// A step: the next state and what was read; or the number that holds the item back, and the state as it was.
-#[derive(Clone, Copy)]
-pub struct Outcome {
-    pub state: State,
-    pub number: u32,
-    pub value: i32,
+// What holds an item back; the number is the description's.
+#[derive(Clone, Copy, Debug, PartialEq, Eq)]
+pub enum Hurdle {
+    // The thread's program is at its end.
+    AtEnd = 20,
+    // FENCE or COMPARE-SWAP with pending stores.
+    Waits = 21,
+    // STORE with depth already reached.
+    Full = 22,
+    // Drain of an empty buffer.
+    Empty = 23,
 }
 
-// A run: how many items were taken, the state then, and the number of the item that was not, or 0.
-#[derive(Clone, Copy)]
-pub struct Ran {
-    pub state: State,
+impl From<Hurdle> for u32 {
+    ghost from_gives = { λ hurdle number. number ≡ number_of hurdle };
+
+    fn from(hurdle: Hurdle) -> u32 {
+        hurdle as u32
+    }
+}
+
+// A run: how many items were taken, and why the next one was not; nothing where all were taken.
+#[derive(Clone, Copy, Debug, PartialEq, Eq)]
+pub struct Ended<R> {
     pub place: usize,
-    pub number: u32,
-}
-
-pub fn refused(state: State, number: u32) -> Outcome
-    ensures { result ≡ refused_of state number }
-{
-    Outcome {
-        state: state,
-        number: number,
-        value: 0,
-    }
-}
-
-pub fn taken(state: State, value: i32) -> Outcome
-    ensures { result ≡ taken_of state value }
-{
-    Outcome {
-        state: state,
-        number: 0,
-        value: value,
-    }
+    pub stopped: Option<R>,
 }

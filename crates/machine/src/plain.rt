@@ -1,13 +1,12 @@
-// The machine of one memory: the same instructions on a state whose buffers are not used.
-ghost use Rattle.std.specs.Prelude.{◌≡◌, ◌<◌, ◌≤◌, length};
+// The machine of one memory: the same actions on a state whose buffers are not used.
+ghost use Rattle.std.specs.Prelude.{◌≡◌, ◌<◌};
 ghost use Rattle.reader.specs.Range.{InRange};
-ghost use Rattle.machine.specs.Run.{Answers};
-ghost use Rattle.machine.specs.Plain.{Threads, at_once, plain_step, plain_of};
+ghost use Rattle.machine.specs.Hurdle.{number_of, outcome_of};
+ghost use Rattle.machine.specs.Plain.{at_once, plain_step};
 
 use crate::effect::Effect;
-use crate::outcome::{Outcome, Ran};
-use crate::{effect, outcome};
-use reader::bytes;
+use crate::outcome::Hurdle;
+use crate::{effect, step};
 use reader::state::{Queue, State};
 
 // A store reaches memory at once.
@@ -15,57 +14,20 @@ use reader::state::{Queue, State};
 fn at_once(e: Effect) -> Effect
     ensures { result ≡ at_once e }
 {
-    let mut f = e;
-    f.pushed = 0;
-    f.pushes = false;
-    if e.pushes {
-        f.word = e.pushed;
+    Effect {
+        word: e.pushed.unwrap_or(e.word),
+        pushed: None,
+        ..e
     }
-    f
 }
 
-// The next instruction of row t.
-pub fn stepped(m: State, t: usize) -> Outcome
-    requires { InRange m × (t < m.threads) }
-    ensures { result ≡ plain_step m t }
+// The next instruction of row t: what it read; nothing holds it back but the end of its program.
+pub fn stepped(s: &mut State, t: usize) -> Result<i32, Hurdle>
+    requires { InRange s.old × (t < s.old.threads) }
+    ensures { outcome_of number_of s.new result ≡ plain_step s.old t }
 {
-    let at = m.positions[t];
-    let end = m.counts[t];
-    if end <= at {
-        return outcome::refused(m, 20);
-    }
-    let p = effect::code_place(t, at);
-    let i = m.code[p];
-    let v = effect::looked(&m.memory, &m.registers, t, at, i);
-    let e = at_once(effect::change(v, Queue::empty(), i));
-    outcome::taken(effect::applied(m, t, i, e), e.value)
-}
-
-// A whole order of threads, until the first that is at its end. One value for each step.
-pub fn ran(m: State, order: &[u8], values: &mut [i32]) -> Ran
-    requires { InRange m × (Threads m.threads order.now × (length order.now ≤ length values.old)) }
-    ensures { Answers plain_of m order.now values.old result values.new }
-{
-    let mut s = m;
-    let mut k = 0;
-    while k < order.len() {
-        let o = stepped(s, bytes::wide(order[k] - 1));
-        if o.number != 0 {
-            return Ran {
-                state: s,
-                place: k,
-                number: o.number,
-            };
-        }
-        let v = o.value;
-        values[k] = v;
-        let next = o.state;
-        s = next;
-        k += 1;
-    }
-    Ran {
-        state: s,
-        place: k,
-        number: 0,
-    }
+    let next = step::fetched(s, t)?;
+    let e = at_once(effect::change(next.seen, &Queue::empty(), next.action));
+    effect::apply(s, t, next.instruction, e);
+    Ok(e.value)
 }

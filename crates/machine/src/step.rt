@@ -1,57 +1,85 @@
-// A step of the machine with buffers, by value. A run that has no use for the old state stores in place instead, by the same parts.
-ghost use Rattle.std.specs.Prelude.{◌≡◌, ◌<◌, true};
+// Steps of the machine with buffers, in place: what a row is at, whether it may go on, and what it then does.
+ghost use Rattle.std.specs.Prelude.{◌≡◌, ◌<◌, true, IfOk, IfErr};
 ghost use Rattle.reader.specs.Range.{InRange};
 ghost use Rattle.reader.specs.Rules.{item_fits};
-ghost use Rattle.machine.specs.Step.{take_step, drain_step, step_of};
+ghost use Rattle.machine.specs.declared.outcome.Hurdle.TheVariants.{AtEnd};
+ghost use Rattle.machine.specs.Action.{end};
+ghost use Rattle.machine.specs.Hurdle.{number_of, outcome_of};
+ghost use Rattle.machine.specs.Run.{taken_of};
+ghost use Rattle.machine.specs.Step.{IsNext, IsEnded, Ready, take_step, drain_step, step_of};
 
-use crate::outcome::Outcome;
-use crate::{effect, outcome};
-use reader::bytes;
-use reader::state::State;
+use crate::action::Action;
+use crate::effect;
+use crate::effect::Seen;
+use crate::outcome::Hurdle;
+use reader::state::{Instruction, State};
 
-// The next instruction of row t.
-fn take(m: State, t: usize) -> Outcome
-    requires { InRange m × (t < m.threads) }
-    ensures { result ≡ take_step m t }
-{
-    let at = m.positions[t];
-    let end = m.counts[t];
-    if end <= at {
-        return outcome::refused(m, 20);
-    }
-    let p = effect::code_place(t, at);
-    let i = m.code[p];
-    let q = m.queues[t];
-    let v = effect::looked(&m.memory, &m.registers, t, at, i);
-    let number = effect::blocked(m.depth, q, i, v);
-    if number != 0 {
-        return outcome::refused(m, number);
-    }
-    let e = effect::change(v, q, i);
-    outcome::taken(effect::applied(m, t, i, e), e.value)
+// The instruction that a row is at, what it finds, and what it is.
+#[derive(Clone, Copy)]
+pub struct Next {
+    pub instruction: Instruction,
+    pub seen: Seen,
+    pub action: Action,
 }
 
-// The oldest pending store of row t.
-#[tactic(auto, unfolding(crate::specs::Step::drain_step, crate::specs::Effect::guard, crate::specs::Run::unless))]
-fn drain(m: State, t: usize) -> Outcome
-    requires { InRange m × (t < m.threads) }
-    ensures { result ≡ drain_step m t }
+// What row t is at; nothing at the end of its program.
+pub fn fetched(s: &State, t: usize) -> Result<Next, Hurdle>
+    requires { InRange s.now × (t < s.now.threads) }
+    ensures next { IfOk result (λ n. IsNext s.now t n) }
+    ensures ended { IfErr result (λ h. IsEnded s.now t h) }
 {
-    let q = m.queues[t];
-    if q.count == 0 {
-        return outcome::refused(m, 23);
+    let at = s.positions[t];
+    if at >= s.counts[t] {
+        return Err(Hurdle::AtEnd);
     }
-    outcome::taken(m.drained(t), 0)
+    let instruction = s.code[effect::code_place(t, at)];
+    let seen = Seen::of(s, t, instruction);
+    let action = Action::of(instruction, at, seen.content);
+    Ok(Next { instruction, seen, action })
+}
+
+// Carries out what row t is at, where nothing holds it back. Gives back what it read, or 0.
+pub fn carry_out(s: &mut State, t: usize, next: Next) -> i32
+    requires { Ready s.old t next }
+    ensures { taken_of s.new result ≡ take_step s.old t }
+{
+    let e = effect::change(next.seen, &s.queues[t], next.action);
+    effect::apply(s, t, next.instruction, e);
+    e.value
+}
+
+// The next instruction of row t: what it read, or what holds it back, with the state as it was.
+pub fn take(s: &mut State, t: usize) -> Result<i32, Hurdle>
+    requires { InRange s.old × (t < s.old.threads) }
+    ensures { outcome_of number_of s.new result ≡ take_step s.old t }
+{
+    let next = fetched(s, t)?;
+    effect::allowed(s.depth, &s.queues[t], next.action)?;
+    Ok(carry_out(s, t, next))
+}
+
+// The oldest pending store of row t goes to memory; nothing is read.
+#[tactic(auto, unfolding(crate::specs::Step::drain_step, crate::specs::Effect::guard, crate::specs::Run::unless), using(crate::proofs::Take::row_drainable))]
+pub fn drain(s: &mut State, t: usize) -> Result<i32, Hurdle>
+    requires { InRange s.old × (t < s.old.threads) }
+    ensures { outcome_of number_of s.new result ≡ drain_step s.old t }
+{
+    if s.queues[t].count == 0 {
+        return Err(Hurdle::Empty);
+    }
+    s.drain(t);
+    Ok(0)
 }
 
 // One item, or what holds it back.
 #[tactic(auto, using(crate::proofs::Take::drain_row, crate::proofs::Take::take_row), unfolding(crate::specs::Step::step_of))]
-pub fn stepped(m: State, item: u8) -> Outcome
-    requires { InRange m × (item_fits m.threads item ≡ true) }
-    ensures { result ≡ step_of m item }
+pub fn stepped(s: &mut State, item: u8) -> Result<i32, Hurdle>
+    requires { InRange s.old × (item_fits s.old.threads item ≡ true) }
+    ensures { outcome_of number_of s.new result ≡ step_of s.old item }
 {
-    if 17 <= item {
-        return drain(m, bytes::wide(item - 17));
+    if item >= 17 {
+        drain(s, usize::from(item - 17))
+    } else {
+        take(s, usize::from(item - 1))
     }
-    take(m, bytes::wide(item - 1))
 }

@@ -1,5 +1,5 @@
 // The state of a run, its limits, and the moves of a queue row. What a thread does with them belongs to the machine.
-ghost use Rattle.std.specs.Prelude.{◌≡◌, ◌<◌, ◌≤◌, get_or};
+ghost use Rattle.std.specs.Prelude.{◌≡◌, ◌<◌, ◌≤◌, get_or, length};
 ghost use Rattle.reader.specs.Limits.{DEPTH};
 ghost use Rattle.reader.specs.Queue.{pending, popped_of, pushed_of};
 ghost use Rattle.reader.specs.State.{no_pending, no_queue, fresh_of};
@@ -79,7 +79,8 @@ impl Queue {
     // The pending stores, oldest first.
     pub fn pending(&self) -> &[Pending]
         requires { self.now.count ≤ DEPTH }
-        ensures { result.now ≡ pending self.now }
+        ensures stores { result.now ≡ pending self.now }
+        ensures many { length result.now ≡ self.now.count }
     {
         &self.entries[..self.count]
     }

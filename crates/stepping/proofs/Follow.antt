@@ -9,9 +9,7 @@ use lib.IntN.{ℤ}
 use borrow.Author.Tests.{eqb-true, eqb-false}
 use Rattle.reader.specs.declared.state.State.{State}
 use Rattle.reader.specs.Rules.{pick, item_fits}
-use Rattle.machine.specs.declared.outcome.Outcome.{Outcome}
-use Rattle.machine.specs.declared.outcome.Ran.{Ran}
-use Rattle.machine.specs.Run.{run_of, values_of}
+use Rattle.machine.specs.Run.{Outcome, Ran, run_of, values_of}
 use Rattle.discipline.specs.Check.{answer, thread_of}
 use Rattle.discipline.specs.Run.{Runnable, Items}
 use Rattle.discipline.specs.Step.{checked_of}

@@ -11,8 +11,7 @@ use Rattle.reader.specs.Bytes.{byte}
 use Rattle.reader.specs.Rules.{pick}
 use Rattle.reader.specs.Case.{read_of}
 use Rattle.reader.proofs.Accepted.{accepted}
-use Rattle.machine.specs.declared.outcome.Ran.{Ran}
-use Rattle.machine.specs.Run.{Answers}
+use Rattle.machine.specs.Run.{Ran, Answers}
 use Rattle.discipline.specs.Step.{checked_of}
 use Rattle.discipline.specs.Check.{thread_of, schedule_of, Checks}
 use Rattle.discipline.proofs.Checked.{runnable_read, items_read, checks_ran}

@@ -9,7 +9,6 @@ use Rattle.reader.specs.declared.state.State.{State}
 use Rattle.reader.specs.Rules.{item_fits}
 use Rattle.reader.specs.Range.{InRange}
 use Rattle.reader.proofs.Tests.{false_true}
-use Rattle.machine.specs.declared.outcome.Outcome.{Outcome}
 use Rattle.machine.specs.Action.{Action}
 use Rattle.discipline.specs.Check.{answer, thread_of}
 use Rattle.discipline.specs.Meaning.{Against, at_end, fence_waits, swap_waits, buffer_full, load_local, load_dirty, store_others, swap_others, acquire_owned, acquire_pending, release_others, release_waits, Stops, stops_take, stops_drain}
@@ -20,6 +19,7 @@ use Rattle.stepping.specs.Step.{kept_of, carried_of, stepped_of}
 use Rattle.stepping.specs.Said.{Said}
 use Rattle.stepping.proofs.Exact.{range_in, in_range}
 use Rattle.stepping.proofs.Cases.{answered_taken, answered_stopped, stepped_cases}
+use Rattle.machine.specs.Run.{Outcome}
 
 -- no reason against an item has a number below 20, so 8 and 10 are never its number
 against_high : {s : State} {t : ℕ} (a : Action) (n : ℕ) → Against s t a n → 20 ≤ n

@@ -8,7 +8,6 @@ use borrow.Author.Tests.{le-leb, lt-leb}
 use Rattle.reader.specs.declared.state.State.{State}
 use Rattle.reader.specs.State.{position_of, count_of, register_of}
 use Rattle.reader.specs.Rules.{pick, item_fits}
-use Rattle.machine.specs.declared.outcome.Outcome.{Outcome}
 use Rattle.machine.specs.declared.effect.Seen.{Seen}
 use Rattle.reader.specs.declared.state.Queue.{Queue}
 use Rattle.machine.specs.Action.{Action, read, store, fence, swap, acquire, release, silent, end, current_of, next_of}
@@ -23,6 +22,7 @@ use Rattle.discipline.proofs.Outcomes.{drain_taken, instruction_taken}
 use Rattle.discipline.proofs.Keeps.{taken_goes, checked_keeps}
 use Rattle.discipline.specs.OneMemory.{reads}
 use Rattle.stepping.specs.Follow.{shown_of}
+use Rattle.machine.specs.Run.{Outcome}
 
 -- what the register of an instruction holds once it is taken, where it reads: the value
 shown_effect : (v : Seen) (q : Queue) (a : Action) → pick (reads a) (effect_of v q a).content (pos 0) ≡ (effect_of v q a).value

@@ -23,7 +23,7 @@ use Rattle.reader.specs.Range.{Shaped}
 use Rattle.machine.specs.declared.effect.Effect.{Effect}
 use Rattle.machine.specs.Action.{current_of}
 use Rattle.machine.specs.Buffer.{after_of}
-use Rattle.machine.specs.Effect.{cell_of, took_of}
+use Rattle.machine.specs.Effect.{cell_of, took_of, pushes}
 use Rattle.machine.specs.Step.{next_effect}
 use Rattle.machine.proofs.Kept.{all_set}
 use Rattle.machine.proofs.Take.{by_kind, current_in, current_cell, row_below, row_few}
@@ -112,7 +112,7 @@ module _ {s : State} (g : Runnable s) {t : ℕ} (h : t < s.threads) where
     code = refl;
     position = λ u l. get_or-set_other s.positions t u e.next 0 (λ z. omega arith);
     queue = λ u l. get_or-set_other s.queues t u _ outside_queue (λ z. omega arith);
-    entry = λ k. rows_beyond s t _ k (after_beyond (queue_of s t) e.pushes _ k);
+    entry = λ k. rows_beyond s t _ k (after_beyond (queue_of s t) (pushes e) _ k);
     flag = λ u l. get_or-set_other s.dirty t u m.dirty 0 (λ z. omega arith);
     register = λ p l. get_or-set_other s.registers (register_place t i.register) p e.content (pos 0) (λ z. omega arith);
     word = λ d l. get_or-set_other s.memory (cell_of i) d e.word (pos 0) (λ z. omega arith);

@@ -2,12 +2,12 @@
 use Rattle.std.specs.Prelude.{ℕ, Bool, ◌≡◌, eqb}
 use Rattle.reader.specs.declared.state.State.{State}
 use Rattle.reader.specs.Rules.{pick, item_fits}
-use Rattle.machine.specs.declared.outcome.Outcome.{Outcome}
 use Rattle.discipline.specs.declared.check.Answer.{Answer}
 use Rattle.discipline.specs.Check.{answer, thread_of}
 use Rattle.discipline.specs.Step.{checked_of}
 use Rattle.stepping.specs.declared.step.After.{After}
 use Rattle.stepping.specs.Range.{in_range_of}
+use Rattle.machine.specs.Run.{Outcome}
 
 -- "unless its number is 0, the state keeps every value"
 abbrev pub kept_of : State → ℕ → After

@@ -204,7 +204,7 @@ loop-k-preserved c =
     let w : to_z w32 (of_z w32 d.effect.word) ≡ d.effect.word = search rules in
     let x : to_z w32 (of_z w32 d.effect.content) ≡ d.effect.content = search rules in
     let v : to_z w32 (of_z w32 d.effect.value) ≡ d.effect.value = search rules in
-    let p : to_z w32 (of_z w32 d.effect.pushed) ≡ d.effect.pushed = search rules in
+    let p : to_z w32 (of_z w32 pushed_value d.effect) ≡ pushed_value d.effect = search rules in
     took_placed s t c.loop-k.k c.loop-k.values j d.effect d.held c.cell_of-c.ensures c.register_place-r.ensures w x v
     (row_pushed s t j d.effect (not-false _ c.if-not-e.false) p c.pushed-row.ensures) c.put_flag.ensures c.put_owner.ensures c.put_sharing.ensures
     (turn checked_of c.loop-k.invariant _ (taken_checked g h c.if-end-at.false i b c.decided-d.ensures c.if-d-ne0.false refl ∙ take_item s c.if-item-ge17.false c.wide-t-in-loop-k.ensures) c.loop-k-test.true c.requires.1.1 refl (good_took c.loop-k.invariant.good h c.if-end-at.false i b c.decided-d.ensures c.if-d-ne0.false))

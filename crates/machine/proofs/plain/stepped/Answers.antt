@@ -1,27 +1,24 @@
--- What is looked at, decided and stored, by the laws of PlainTake.
-use Rattle.std.proofs.Common.{◌≡◌, ℕ, get_or, ap, ◌∙◌, arith, w32, to_z, of_z, rules}
-use Rattle.reader.specs.State.{no_instruction}
-use Rattle.machine.proofs.Take.{position_below, current_lookable, looked_at}
-use Rattle.machine.proofs.PlainTake.{plain_end, at_once_puts, plain_step_lem}
+use Rattle.std.proofs.Common.{rules, ◌≡◌, ◌≤◌, arith, w32, to_z, of_z}
+use Rattle.std.proofs.lemmas.Result.{err_from_is_err_and}
+use Rattle.reader.specs.Limits.{DEPTH}
+use Rattle.machine.proofs.Take.{found_position, found_lookable}
+use Rattle.machine.proofs.PlainTake.{at_once_puts, plain_ended, plain_step_lem}
 use Rattle.machine.proofs.plain.stepped.Goals as goal
 
-pub returns-then-end-at : goal.returns-then-end-at
-returns-then-end-at c = c.refused.ensures ∙ plain_end c.args.m c.args.t c.if-end-at.true
-
-pub looked-v-requires : goal.looked-v-requires
-looked-v-requires c = current_lookable c.requires.0 c.requires.1 c.if-end-at.false (ap (λ (p : ℕ). get_or c.args.m.code p no_instruction) c.code_place-p.ensures)
+pub returns-in_err-next : goal.returns-in_err-next
+returns-in_err-next c =
+    let p = err_from_is_err_and c.from_residual.result c.from_residual.ensures.1 in
+    rw (p.1, p.2) (plain_ended c.in_err-next.ensures.ended)
 
 pub change-requires : goal.change-requires
 change-requires c =
-    let e = looked_at _ _ _ _ _ c.looked-v.ensures in
-    let k = position_below c.requires.0 c.requires.1 c.if-end-at.false in
-    (omega arith, rw c.empty.ensures (omega arith))
+    let f : c.empty.result.count ≤ DEPTH = rw c.empty.ensures (omega arith) in
+    (found_position c.requires.0 c.requires.1 c.in_ok-next.ensures.next, f)
 
-pub applied-requires : goal.applied-requires
-applied-requires c = (current_lookable c.requires.0 c.requires.1 c.if-end-at.false (ap (λ (p : ℕ). get_or c.args.m.code p no_instruction) c.code_place-p.ensures), λ b. absurd (at_once_puts _ c.at_once-e.ensures b))
+pub apply-requires : goal.apply-requires
+apply-requires c = (found_lookable c.requires.0 c.requires.1 c.in_ok-next.ensures.next, λ b. absurd (at_once_puts c.change.result c.at_once-e.ensures b))
 
 pub returns : goal.returns
 returns c =
-    let x = c.at_once-e.result in
-    let z : to_z w32 (of_z w32 x.value) ≡ x.value = search rules in
-    rw z at c.taken.ensures ∙ plain_step_lem c.requires.0 c.requires.1 c.if-end-at.false (ap (λ (p : ℕ). get_or c.args.m.code p no_instruction) c.code_place-p.ensures) c.looked-v.ensures c.empty.ensures c.change.ensures c.at_once-e.ensures c.applied.ensures
+    let w : to_z w32 (of_z w32 c.at_once-e.result.value) ≡ c.at_once-e.result.value = search rules in
+    rw w (plain_step_lem c.requires.0 c.requires.1 c.in_ok-next.ensures.next c.empty.ensures c.change.ensures c.at_once-e.ensures c.apply.ensures)
