@@ -4,6 +4,7 @@ pub mod Ten
 pub mod Take
 pub mod PlainTake
 pub mod Runs
+pub mod Steps
 pub mod Kept
 pub mod InRange
 pub mod Forward

@@ -1,23 +1,25 @@
--- What a run of the one-memory machine keeps of its states, and finds in an order of threads.
-use Rattle.std.proofs.Common.{◌≡◌, ℕ, ◌-◌, ◌<◌, List, length, get_or, ◌∙◌, arith}
+-- What a run of the one-memory machine keeps of its states, and what a thread at its end leaves.
+use Rattle.std.proofs.Common.{◌≡◌, ℕ, zero, suc, ◌-◌, refl, arith}
 use Rattle.reader.specs.declared.state.State.{State}
-use Rattle.reader.specs.Range.{InRange}
-use Rattle.machine.specs.Plain.{Threads, plain_step}
+use Rattle.machine.specs.Run.{Outcome, unless}
+use Rattle.machine.specs.Plain.{IsThread, ended_of, plain_step, plain_of}
+use Rattle.machine.specs.Action.{next_of}
 use Rattle.machine.proofs.InRange.{plain_step_in, plain_threads}
-use Rattle.machine.specs.Run.{Outcome}
 
-pub record Good (m₀ s : State) : Type 0 where
-  pub in_range : InRange s
-  pub threads : s.threads ≡ m₀.threads
+pub plain_keeps : (s : State) (x y : ℕ) → IsThread s x → IsThread s y → (plain_of s x).number ≡ 0 → IsThread (plain_of s x).state y
+plain_keeps s x y a b e =
+    let l = a.least in
+    let m = a.most in
+    let r = plain_threads s (x - 1) in
+    let i = b.most in
+    record { in_range = plain_step_in a.in_range (omega arith); least = b.least; most = omega arith }
 
-module _ {m₀ s : State} (g : Good m₀ s) where
-  pub plain_kept : {t : ℕ} {o : Outcome} → t < s.threads → o ≡ plain_step s t → Good m₀ o.state
-  plain_kept {t} h e = record { in_range = rw e (plain_step_in g.in_range h); threads = rw e (plain_threads s t ∙ g.threads) }
+-- an item that is refused leaves the state
+pub unless_stays : (n : ℕ) (s : State) (o : Outcome) → o.number ≡ 0 → ((unless n s o).number ≡ 0 → ⊥) → (unless n s o).state ≡ s
+unfolding unless
+unless_stays zero s o z h = absurd (h z)
+unless_stays (suc n) s o z h = refl
 
-  -- the row of the k-th thread of an order
-  pub row_there : {order : List ℕ} {k t : ℕ} → Threads m₀.threads order → k < length order → t ≡ get_or order k 0 - 1 → t < s.threads
-  row_there {order} {k} r h e =
-      let a = r.least k h in
-      let b = r.most k h in
-      let c = g.threads in
-      omega arith
+pub plain_stays : (s : State) (x : ℕ) → ((plain_of s x).number ≡ 0 → ⊥) → (plain_of s x).state ≡ s
+unfolding plain_step
+plain_stays s x h = unless_stays (ended_of (next_of s (x - 1))) s _ refl h

@@ -5,7 +5,7 @@ use Rattle.reader.specs.declared.state.State.{State}
 use Rattle.reader.specs.State.{no_queue, position_of, count_of}
 use Rattle.reader.specs.Range.{InRange}
 use Rattle.reader.proofs.Tests.{false_true}
-use Rattle.machine.specs.declared.outcome.Hurdle.{Hurdle}
+use Rattle.machine.specs.declared.hurdle.Hurdle.{Hurdle}
 use Rattle.machine.specs.declared.step.Next.{Next}
 use Rattle.machine.specs.Hurdle.{number_of}
 use Rattle.machine.specs.Step.{IsNext, IsEnded}

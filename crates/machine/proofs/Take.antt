@@ -18,8 +18,8 @@ use Rattle.machine.specs.Action.{Action, read, store, fence, swap, acquire, rele
 use Rattle.machine.specs.Effect.{cell_of, seen_of, guard, blocked_of, effect_of, took_of, pushes}
 use Rattle.machine.specs.Look.{Lookable}
 use Rattle.machine.specs.Run.{Outcome, refused_of, taken_of, unless}
-use Rattle.machine.specs.declared.outcome.Hurdle.{Hurdle}
-use Rattle.machine.specs.declared.outcome.Hurdle.TheVariants.{AtEnd, Waits, Full, Empty}
+use Rattle.machine.specs.declared.hurdle.Hurdle.{Hurdle}
+use Rattle.machine.specs.declared.hurdle.Hurdle.TheVariants.{AtEnd, Waits, Full, Empty}
 use Rattle.machine.specs.declared.step.Next.{Next}
 use Rattle.machine.specs.Hurdle.{number_of}
 use Rattle.machine.specs.Step.{IsNext, IsEnded, Ready, take_step}

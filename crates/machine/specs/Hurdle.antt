@@ -1,9 +1,9 @@
 -- Why the machine does not take an item: the description's number of each reason.
 use Rattle.std.specs.Prelude.{ℕ, Result, Ok, Err, Option, Some, None, ℤ}
 use Rattle.reader.specs.declared.state.State.{State}
-use Rattle.machine.specs.declared.outcome.Hurdle.{Hurdle}
-use Rattle.machine.specs.declared.outcome.Hurdle.TheVariants.{AtEnd, Waits, Full, Empty}
-use Rattle.machine.specs.declared.outcome.Ended.{Ended}
+use Rattle.machine.specs.declared.hurdle.Hurdle.{Hurdle}
+use Rattle.machine.specs.declared.hurdle.Hurdle.TheVariants.{AtEnd, Waits, Full, Empty}
+use Rattle.machine.specs.declared.run.Ended.{Ended}
 use Rattle.machine.specs.Run.{Outcome, Ran, taken_of, refused_of}
 
 abbrev pub number_of : Hurdle → ℕ

@@ -2,6 +2,7 @@
 use Rattle.std.specs.Prelude.{ℕ, None, ◌-◌, ◌<◌, ◌≤◌, List, length, slice_index}
 use Rattle.reader.specs.declared.state.State.{State}
 use Rattle.reader.specs.State.{no_queue}
+use Rattle.reader.specs.Range.{InRange}
 use Rattle.reader.specs.Rules.{pick}
 use Rattle.machine.specs.declared.effect.Effect.{Effect}
 use Rattle.machine.specs.Action.{Action, read, store, fence, swap, acquire, release, silent, end, current_of, next_of}
@@ -39,3 +40,9 @@ plain_of s thread = plain_step s (thread - 1)
 pub record Threads (threads : ℕ) (order : List ℕ) : Type 0 where
   pub least : (k : ℕ) → k < length order → 1 ≤ slice_index order k
   pub most : (k : ℕ) → k < length order → slice_index order k ≤ threads
+
+-- a thread that may step: one of the threads of a state in range
+pub record IsThread (s : State) (thread : ℕ) : Type 0 where
+  pub in_range : InRange s
+  pub least : 1 ≤ thread
+  pub most : thread ≤ s.threads

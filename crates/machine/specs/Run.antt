@@ -1,5 +1,5 @@
 -- A run of items on any machine that steps: until the first item that is not taken. Every machine of this product runs by this definition.
-use Rattle.std.specs.Prelude.{◌≡◌, ℕ, zero, suc, List, [], ◌∷◌, ◌++◌, drop, ℤ, pos, ◌==◌}
+use Rattle.std.specs.Prelude.{◌≡◌, ◌<◌, length, slice_index, ℕ, zero, suc, List, [], ◌∷◌, ◌++◌, drop, ℤ, pos, ◌==◌}
 use Rattle.reader.specs.declared.state.State.{State}
 use Rattle.reader.specs.Rules.{pick}
 
@@ -46,3 +46,7 @@ module _ (step : State → ℕ → Outcome) where
 pub record Answers (step : State → ℕ → Outcome) (m₀ : State) (xs : List ℕ) (vs₀ : List ℤ) (r : Ran) (vs : List ℤ) : Type 0 where
   pub ran : r ≡ run_of step m₀ 0 xs
   pub wrote : vs ≡ values_of step m₀ xs ++ drop r.place vs₀
+
+-- every item of a list may be given to a state
+abbrev pub AllTake : (State → ℕ → Type 0) → State → List ℕ → Type 0
+AllTake Takes s xs = (k : ℕ) → k < length xs → Takes s (slice_index xs k)

@@ -6,8 +6,8 @@ use Rattle.reader.specs.Range.{InRange}
 use Rattle.reader.specs.Drain.{drained_of}
 use Rattle.reader.specs.Rules.{pick}
 use Rattle.machine.specs.declared.effect.Effect.{Effect}
-use Rattle.machine.specs.declared.outcome.Hurdle.{Hurdle}
-use Rattle.machine.specs.declared.outcome.Hurdle.TheVariants.{AtEnd}
+use Rattle.machine.specs.declared.hurdle.Hurdle.{Hurdle}
+use Rattle.machine.specs.declared.hurdle.Hurdle.TheVariants.{AtEnd}
 use Rattle.machine.specs.declared.step.Next.{Next}
 use Rattle.machine.specs.Action.{end, current_of, next_of}
 use Rattle.machine.specs.Effect.{seen_of, guard, blocked_of, effect_of, took_of}

@@ -40,16 +40,41 @@ impl Action {
         let cell = i.cell;
         match i.operation {
             1 => Action::Read { cell },
-            2 => Action::Store { cell, value: i.value },
-            3 => Action::Store { cell, value: content },
+            2 => Action::Store {
+                cell,
+                value: i.value,
+            },
+            3 => Action::Store {
+                cell,
+                value: content,
+            },
             4 => Action::Fence,
-            5 => Action::Swap { cell, old: content, new: i.value },
-            6 => Action::Acquire { cell, sharing: Action::LOCAL },
-            7 => Action::Acquire { cell, sharing: Action::SHARED },
+            5 => Action::Swap {
+                cell,
+                old: content,
+                new: i.value,
+            },
+            6 => Action::Acquire {
+                cell,
+                sharing: Action::LOCAL,
+            },
+            7 => Action::Acquire {
+                cell,
+                sharing: Action::SHARED,
+            },
             8 => Action::Release { cell },
-            9 if content == i.value => Action::Silent { next: cell as usize, content },
-            9 => Action::Silent { next: at + 1, content },
-            10 => Action::Silent { next: at + 1, content: integer::sum(content, i.value) },
+            9 if content == i.value => Action::Silent {
+                next: cell as usize,
+                content,
+            },
+            9 => Action::Silent {
+                next: at + 1,
+                content,
+            },
+            10 => Action::Silent {
+                next: at + 1,
+                content: integer::sum(content, i.value),
+            },
             _ => Action::End,
         }
     }

@@ -9,7 +9,11 @@ use reader::state::{Pending, Queue};
 pub fn newest(pending: &[Pending], cell: u32) -> Option<i32>
     ensures { result ≡ newest_in pending.now cell }
 {
-    pending.iter().rev().find(|e| e.cell == cell).map(|e| e.value)
+    pending
+        .iter()
+        .rev()
+        .find(|e| e.cell == cell)
+        .map(|e| e.value)
 }
 
 // What a load of the cell gets, whose word in memory is given.

@@ -8,7 +8,7 @@ ghost use Rattle.machine.specs.Look.{Lookable};
 
 use crate::action::Action;
 use crate::buffer;
-use crate::outcome::Hurdle;
+use crate::hurdle::Hurdle;
 use reader::state::{Instruction, Pending, Queue, State};
 
 // What an instruction finds: its thread's position, its register's content, and its cell's word in memory.
@@ -99,17 +99,27 @@ pub fn change(v: Seen, q: &Queue, action: Action) -> Effect
     match action {
         Action::Read { cell } => {
             let value = buffer::forwarded(q, u32::from(cell), v.word);
-            Effect { value, content: value, ..quiet }
+            Effect {
+                value,
+                content: value,
+                ..quiet
+            }
         }
-        Action::Store { value, .. } => Effect { pushed: Some(value), ..quiet },
-        Action::Swap { old, new, .. } if v.word == old => Effect {
-            value: v.word,
-            content: v.word,
-            word: new,
+        Action::Store { value, .. } => Effect {
+            pushed: Some(value),
             ..quiet
         },
-        Action::Swap { .. } => Effect { value: v.word, content: v.word, ..quiet },
-        Action::Silent { next, content } => Effect { next, content, ..quiet },
+        Action::Swap { old, new, .. } => Effect {
+            value: v.word,
+            content: v.word,
+            word: if v.word == old { new } else { v.word },
+            ..quiet
+        },
+        Action::Silent { next, content } => Effect {
+            next,
+            content,
+            ..quiet
+        },
         Action::Fence | Action::Acquire { .. } | Action::Release { .. } | Action::End => quiet,
     }
 }
@@ -121,7 +131,10 @@ pub fn apply(s: &mut State, t: usize, i: Instruction, e: Effect)
     ensures { s.new ≡ took_of s.old t i e }
 {
     if let Some(value) = e.pushed {
-        s.queues[t].push(Pending { value, cell: u32::from(i.cell) });
+        s.queues[t].push(Pending {
+            value,
+            cell: u32::from(i.cell),
+        });
     }
     s.memory[cell_of(i)] = e.word;
     s.registers[register_place(t, i)] = e.content;

@@ -4,7 +4,8 @@
 pub mod action;
 pub mod buffer;
 pub mod effect;
+pub mod hurdle;
 pub mod integer;
-pub mod outcome;
 pub mod plain;
+pub mod run;
 pub mod step;

@@ -1,12 +1,14 @@
 // The machine of one memory: the same actions on a state whose buffers are not used.
-ghost use Rattle.std.specs.Prelude.{◌≡◌, ◌<◌};
+ghost use Rattle.std.specs.Prelude.{◌≡◌, ◌<◌, ◌≤◌, length};
 ghost use Rattle.reader.specs.Range.{InRange};
-ghost use Rattle.machine.specs.Hurdle.{number_of, outcome_of};
-ghost use Rattle.machine.specs.Plain.{at_once, plain_step};
+ghost use Rattle.machine.specs.Hurdle.{number_of, outcome_of, ran_of};
+ghost use Rattle.machine.specs.Plain.{Threads, IsThread, at_once, plain_step, plain_of};
+ghost use Rattle.machine.specs.Run.{Answers};
 
 use crate::effect::Effect;
-use crate::outcome::Hurdle;
-use crate::{effect, step};
+use crate::hurdle::Hurdle;
+use crate::run::{Ended, Machine};
+use crate::{effect, run, step};
 use reader::state::{Queue, State};
 
 // A store reaches memory at once.
@@ -30,4 +32,29 @@ pub fn stepped(s: &mut State, t: usize) -> Result<i32, Hurdle>
     let e = at_once(effect::change(next.seen, &Queue::empty(), next.action));
     effect::apply(s, t, next.instruction, e);
     Ok(e.value)
+}
+
+// The machine whose items are the numbers of threads.
+pub struct OneMemory;
+
+impl Machine for OneMemory {
+    type Reason = Hurdle;
+
+    ghost number = { number_of };
+
+    ghost step = { plain_of };
+
+    ghost Takes = { IsThread };
+
+    fn step(s: &mut State, item: u8) -> Result<i32, Hurdle> {
+        stepped(s, usize::from(item - 1))
+    }
+}
+
+// A whole order of threads, until the first that is at its end. One value for each step.
+pub fn ran(s: &mut State, order: &[u8], values: &mut [i32]) -> Ended<Hurdle>
+    requires { InRange s.old × (Threads s.old.threads order.now × (length order.now ≤ length values.old)) }
+    ensures { Answers plain_of s.old order.now values.old (ran_of number_of s.new result) values.new }
+{
+    run::run::<OneMemory>(s, order, values)
 }

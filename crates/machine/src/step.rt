@@ -2,7 +2,7 @@
 ghost use Rattle.std.specs.Prelude.{◌≡◌, ◌<◌, true, IfOk, IfErr};
 ghost use Rattle.reader.specs.Range.{InRange};
 ghost use Rattle.reader.specs.Rules.{item_fits};
-ghost use Rattle.machine.specs.declared.outcome.Hurdle.TheVariants.{AtEnd};
+ghost use Rattle.machine.specs.declared.hurdle.Hurdle.TheVariants.{AtEnd};
 ghost use Rattle.machine.specs.Action.{end};
 ghost use Rattle.machine.specs.Hurdle.{number_of, outcome_of};
 ghost use Rattle.machine.specs.Run.{taken_of};
@@ -11,7 +11,7 @@ ghost use Rattle.machine.specs.Step.{IsNext, IsEnded, Ready, take_step, drain_st
 use crate::action::Action;
 use crate::effect;
 use crate::effect::Seen;
-use crate::outcome::Hurdle;
+use crate::hurdle::Hurdle;
 use reader::state::{Instruction, State};
 
 // The instruction that a row is at, what it finds, and what it is.
@@ -35,7 +35,11 @@ pub fn fetched(s: &State, t: usize) -> Result<Next, Hurdle>
     let instruction = s.code[effect::code_place(t, at)];
     let seen = Seen::of(s, t, instruction);
     let action = Action::of(instruction, at, seen.content);
-    Ok(Next { instruction, seen, action })
+    Ok(Next {
+        instruction,
+        seen,
+        action,
+    })
 }
 
 // Carries out what row t is at, where nothing holds it back. Gives back what it read, or 0.

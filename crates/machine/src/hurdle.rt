@@ -1,4 +1,4 @@
-// Why the machine does not take an item, and how a run ends.
+// Why the machine does not take an item.
 ghost use Rattle.std.specs.Prelude.{◌≡◌};
 ghost use Rattle.machine.specs.Hurdle.{number_of};
 
@@ -21,11 +21,4 @@ impl From<Hurdle> for u32 {
     fn from(hurdle: Hurdle) -> u32 {
         hurdle as u32
     }
-}
-
-// A run: how many items were taken, and why the next one was not; nothing where all were taken.
-#[derive(Clone, Copy, Debug, PartialEq, Eq)]
-pub struct Ended<R> {
-    pub place: usize,
-    pub stopped: Option<R>,
 }
