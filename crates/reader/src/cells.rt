@@ -15,7 +15,7 @@ fn cell(case: &[u8], threads: usize, at: usize) -> Judged
     }
     let x = bytes::cell_at(case, at);
     let wrong = rules::cell_wrong(threads, x.owner, x.sharing);
-    judged::verdict(rules::CELL_BYTES, 6, at, wrong)
+    judged::verdict(rules::CELL_BYTES, 6, at, wrong.unwrap_or(rules::CELL_BYTES))
 }
 
 pub fn read(case: &[u8], part: Part) -> Part

@@ -3,7 +3,7 @@
 // The lowest layer: what a case is, and from bytes to the state that it starts. Nothing here knows how a thread steps.
 ghost use Rattle.std.specs.Prelude.{◌≡◌, ◌+◌, ◌≤◌, length};
 ghost use Rattle.reader.specs.Case.{front_judged, sizes_judged, sized_of, refused_of, scheduled_of, read_of};
-ghost use Rattle.reader.specs.Limits.{THREADS, CELLS};
+ghost use Rattle.reader.specs.Limits.{CELLS};
 
 pub mod bytes;
 mod cells;
@@ -100,7 +100,6 @@ fn refused(j: Judged) -> Reading
 
 // The schedule, behind all that is in the part.
 fn scheduled(case: &[u8], part: Part) -> Reading
-    requires { part.state.threads ≤ THREADS }
     ensures { result ≡ scheduled_of case.now part }
 {
     let at = part.judged.place;

@@ -1,6 +1,5 @@
 // The schedule of a case, which stays where it stands: only judged here.
 ghost use Rattle.std.specs.Prelude.{◌≡◌, ◌≤◌};
-ghost use Rattle.reader.specs.Limits.{THREADS};
 ghost use Rattle.reader.specs.Case.{item_judged, items_judged, item_count_judged, schedule_judged};
 
 use crate::judged::Judged;
@@ -10,7 +9,6 @@ use crate::{bytes, judged, rules};
 // The k-th item, which stands where j says.
 #[tactic(auto, unfolding(crate::specs::Case::item_judged, crate::specs::Case::field))]
 fn item(case: &[u8], threads: usize, k: usize, j: Judged) -> Judged
-    requires { threads ≤ THREADS }
     ensures { result ≡ item_judged case.now threads k j }
 {
     let at = j.place;
@@ -22,7 +20,6 @@ fn item(case: &[u8], threads: usize, k: usize, j: Judged) -> Judged
 }
 
 fn items(case: &[u8], threads: usize, n: usize, at: usize) -> Judged
-    requires { threads ≤ THREADS }
     ensures { result ≡ items_judged case.now threads n at }
 {
     let mut j = Judged {
@@ -54,7 +51,6 @@ fn count(case: &[u8], at: usize) -> Judged
 
 // The count, the items, and that nothing is left over.
 pub fn judge(case: &[u8], threads: usize, at: usize) -> Judged
-    requires { threads ≤ THREADS }
     ensures { result ≡ schedule_judged case.now threads at }
 {
     let counted = count(case, at);
