@@ -7,7 +7,6 @@ ghost use Rattle.machine.specs.Plain.{Threads, at_once, plain_step, plain_of};
 use crate::effect::Effect;
 use crate::outcome::{Outcome, Ran};
 use crate::{effect, outcome};
-use reader::bytes;
 use reader::state::{Queue, State};
 
 // A store reaches memory at once.
@@ -49,7 +48,7 @@ pub fn ran(m: State, order: &[u8], values: &mut [i32]) -> Ran
     let mut s = m;
     let mut k = 0;
     while k < order.len() {
-        let o = stepped(s, bytes::wide(order[k] - 1));
+        let o = stepped(s, usize::from(order[k] - 1));
         if o.number != 0 {
             return Ran {
                 state: s,

@@ -6,7 +6,6 @@ ghost use Rattle.machine.specs.Step.{take_step, drain_step, step_of};
 
 use crate::outcome::Outcome;
 use crate::{effect, outcome};
-use reader::bytes;
 use reader::state::State;
 
 // The next instruction of row t.
@@ -51,7 +50,7 @@ pub fn stepped(m: State, item: u8) -> Outcome
     ensures { result ≡ step_of m item }
 {
     if 17 <= item {
-        return drain(m, bytes::wide(item - 17));
+        return drain(m, usize::from(item - 17));
     }
-    take(m, bytes::wide(item - 1))
+    take(m, usize::from(item - 1))
 }

@@ -10,7 +10,7 @@ use crate::{bytes, judged, rules};
 fn cell(case: &[u8], threads: usize, at: usize) -> Judged
     ensures { result ≡ cell_judged case.now threads at }
 {
-    if bytes::left(case, at) < rules::CELL_BYTES {
+    if case.len().saturating_sub(at) < rules::CELL_BYTES {
         return judged::missing(at);
     }
     let x = bytes::cell_at(case, at);

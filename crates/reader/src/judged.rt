@@ -2,7 +2,6 @@
 ghost use Rattle.std.specs.Prelude.{◌≡◌, ◌+◌, ◌<◌, ◌^◌};
 ghost use Rattle.reader.specs.Case.{refuse, verdict_of, whole, count_judged};
 
-use crate::bytes;
 use crate::state::State;
 
 // A refusal with its place; or number 0, and the place where the next field begins.
@@ -59,9 +58,9 @@ pub fn whole_if(ok: bool, n: usize) -> usize
 pub fn count(case: &[u8], low: usize, high: usize, at: usize) -> Judged
     ensures { result ≡ count_judged case.now low high at }
 {
-    if bytes::left(case, at) < 1 {
+    if case.len().saturating_sub(at) < 1 {
         return missing(at);
     }
-    let ok = (low..=high).contains(&bytes::wide(case[at]));
+    let ok = (low..=high).contains(&usize::from(case[at]));
     verdict(1, 4, at, whole_if(ok, 1))
 }

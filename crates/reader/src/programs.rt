@@ -11,7 +11,7 @@ use crate::{bytes, judged, rules};
 fn instruction(case: &[u8], cells: usize, count: usize, at: usize) -> Judged
     ensures { result ≡ instruction_judged case.now cells count at }
 {
-    if bytes::left(case, at) < rules::INSTRUCTION_BYTES {
+    if case.len().saturating_sub(at) < rules::INSTRUCTION_BYTES {
         return judged::missing(at);
     }
     let wrong = rules::instruction_wrong(cells, count, bytes::instruction_at(case, at));
@@ -65,7 +65,7 @@ fn program(case: &[u8], t: usize, part: Part) -> Part
             state: s,
         };
     }
-    let count = bytes::wide(case[at]);
+    let count = usize::from(case[at]);
     s.counts[t] = count;
     let counted = Part {
         judged: j,

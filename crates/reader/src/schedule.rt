@@ -12,10 +12,10 @@ fn item(case: &[u8], threads: usize, k: usize, j: Judged) -> Judged
     ensures { result ≡ item_judged case.now threads k j }
 {
     let at = j.place;
-    if bytes::left(case, at) < 1 {
+    if case.len().saturating_sub(at) < 1 {
         return judged::missing(at);
     }
-    let ok = rules::item_fits(threads, bytes::wide(case[at]));
+    let ok = rules::item_fits(threads, usize::from(case[at]));
     judged::verdict(1, 8, at, judged::whole_if(ok, 1))
 }
 
@@ -42,10 +42,10 @@ fn items(case: &[u8], threads: usize, n: usize, at: usize) -> Judged
 fn count(case: &[u8], at: usize) -> Judged
     ensures { result ≡ item_count_judged case.now at }
 {
-    if bytes::left(case, at) < 2 {
+    if case.len().saturating_sub(at) < 2 {
         return judged::missing(at);
     }
-    let ok = bytes::pair(case[at], case[at + 1]) <= State::ITEMS;
+    let ok = bytes::pair_at(case, at) <= State::ITEMS;
     judged::verdict(2, 4, at, judged::whole_if(ok, 2))
 }
 
@@ -57,7 +57,7 @@ pub fn judge(case: &[u8], threads: usize, at: usize) -> Judged
     if counted.number != 0 {
         return counted;
     }
-    let n = bytes::pair(case[at], case[at + 1]);
+    let n = bytes::pair_at(case, at);
     let j = items(case, threads, n, at + 2);
     if j.number != 0 {
         return j;
