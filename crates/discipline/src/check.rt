@@ -6,7 +6,6 @@ ghost use Rattle.reader.specs.Rules.{pick};
 ghost use Rattle.discipline.specs.Check.{answer, thread_of, Checks};
 
 use crate::run;
-use reader::bytes;
 use reader::state::State;
 
 #[repr(C)]

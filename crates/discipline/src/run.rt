@@ -7,7 +7,6 @@ ghost use Rattle.discipline.specs.Run.{Items, Runnable};
 use crate::{decide, elsewhere, table};
 use machine::effect;
 use machine::outcome::Ran;
-use reader::bytes;
 use reader::state::{Pending, State};
 
 // Every item is taken in turn until one is not. The k-th value is what the k-th item read, or 0.
@@ -20,7 +19,7 @@ pub fn ran(m: State, items: &[u8], values: &mut [i32]) -> Ran
     while k < items.len() {
         let item = items[k];
         if 17 <= item {
-            let t = bytes::wide(item - 17);
+            let t = usize::from(item - 17);
             let q = s.queues[t];
             if q.count == 0 {
                 return Ran {
@@ -39,7 +38,7 @@ pub fn ran(m: State, items: &[u8], values: &mut [i32]) -> Ran
             k += 1;
             continue;
         }
-        let t = bytes::wide(item - 1);
+        let t = usize::from(item - 1);
         let at = s.positions[t];
         let end = s.counts[t];
         if end <= at {

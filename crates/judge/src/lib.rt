@@ -8,7 +8,6 @@ ghost use Rattle.report.specs.Room.{report_room};
 ghost use Rattle.judge.specs.Output.{output_of};
 
 use discipline::check;
-use reader::bytes;
 use reader::state::State;
 
 // Enough for the report of any case: lists of all items and of all cells, each number of them as long as it can be.
@@ -21,7 +20,7 @@ fn cells(case: &[u8]) -> usize
     ensures { result ≡ byte case.now 4 }
 {
     if 4 < case.len() {
-        return bytes::wide(case[4]);
+        return usize::from(case[4]);
     }
     0
 }

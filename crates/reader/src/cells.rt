@@ -10,12 +10,12 @@ use crate::{bytes, judged, rules};
 fn cell(case: &[u8], threads: usize, at: usize) -> Judged
     ensures { result ≡ cell_judged case.now threads at }
 {
-    if bytes::left(case, at) < rules::CELL_BYTES {
+    if case.len().saturating_sub(at) < rules::CELL_BYTES {
         return judged::missing(at);
     }
     let x = bytes::cell_at(case, at);
     let wrong = rules::cell_wrong(threads, x.owner, x.sharing);
-    judged::verdict(rules::CELL_BYTES, 6, at, wrong)
+    judged::verdict(rules::CELL_BYTES, 6, at, wrong.unwrap_or(rules::CELL_BYTES))
 }
 
 pub fn read(case: &[u8], part: Part) -> Part

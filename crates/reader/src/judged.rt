@@ -3,7 +3,6 @@ ghost use Rattle.std.specs.Prelude.{◌≡◌, ◌+◌, ◌<◌, ◌^◌};
 ghost use Rattle.reader.specs.Case.{refuse, verdict_of, whole, count_judged};
 
 use crate::state::State;
-use crate::{bytes, rules};
 
 // A refusal with its place; or number 0, and the place where the next field begins.
 #[derive(Clone, Copy)]
@@ -55,13 +54,13 @@ pub fn whole_if(ok: bool, n: usize) -> usize
 }
 
 // A count of one byte, within its limits.
-#[tactic(auto, unfolding(crate::specs::Case::count_judged, crate::specs::Case::field))]
+#[tactic(auto, unfolding(crate::specs::Case::count_judged, crate::specs::Case::field, crate::specs::Rules::within))]
 pub fn count(case: &[u8], low: usize, high: usize, at: usize) -> Judged
     ensures { result ≡ count_judged case.now low high at }
 {
-    if bytes::left(case, at) < 1 {
+    if case.len().saturating_sub(at) < 1 {
         return missing(at);
     }
-    let ok = rules::is_within(low, high, bytes::wide(case[at]));
+    let ok = (low..=high).contains(&usize::from(case[at]));
     verdict(1, 4, at, whole_if(ok, 1))
 }

@@ -3,7 +3,7 @@
 // The lowest layer: what a case is, and from bytes to the state that it starts. Nothing here knows how a thread steps.
 ghost use Rattle.std.specs.Prelude.{◌≡◌, ◌+◌, ◌≤◌, length};
 ghost use Rattle.reader.specs.Case.{front_judged, sizes_judged, sized_of, refused_of, scheduled_of, read_of};
-ghost use Rattle.reader.specs.Limits.{THREADS, CELLS};
+ghost use Rattle.reader.specs.Limits.{CELLS};
 
 pub mod bytes;
 mod cells;
@@ -44,7 +44,7 @@ fn front(case: &[u8]) -> Judged
             number: 2,
         };
     }
-    if bytes::pair(case[1], case[2]) != case.len() {
+    if bytes::pair_at(case, 1) != case.len() {
         return Judged {
             place: 1,
             number: 3,
@@ -78,9 +78,9 @@ fn sized(case: &[u8]) -> State
     ensures { result ≡ sized_of case.now }
 {
     let mut s = State::fresh();
-    s.threads = bytes::wide(case[3]);
-    s.cells = bytes::wide(case[4]);
-    s.depth = bytes::wide(case[5]);
+    s.threads = usize::from(case[3]);
+    s.cells = usize::from(case[4]);
+    s.depth = usize::from(case[5]);
     s
 }
 
@@ -100,7 +100,6 @@ fn refused(j: Judged) -> Reading
 
 // The schedule, behind all that is in the part.
 fn scheduled(case: &[u8], part: Part) -> Reading
-    requires { part.state.threads ≤ THREADS }
     ensures { result ≡ scheduled_of case.now part }
 {
     let at = part.judged.place;
@@ -109,7 +108,7 @@ fn scheduled(case: &[u8], part: Part) -> Reading
     if j.number != 0 {
         return refused(j);
     }
-    let items = bytes::pair(case[at], case[at + 1]);
+    let items = bytes::pair_at(case, at);
     Reading {
         number: 0,
         place: 0,

@@ -1,36 +1,76 @@
-// Which fields an operation uses: the one table that knows it. The reader looks it up, and so does whoever judges or writes an instruction.
-ghost use Rattle.std.specs.Prelude.{◌≡◌, ◌<◌, ◌≤◌};
-ghost use Rattle.reader.specs.Operations.{OPERATIONS, uses_of};
+// The operations, and which fields each uses: the one table that knows it. The reader looks it up, and so does whoever judges or writes an instruction.
+ghost use Rattle.std.specs.Prelude.{◌≡◌};
+ghost use Rattle.std.specs.Int.{from_bool};
+ghost use Rattle.reader.specs.Operations.{uses_of, number_of, column_of, Numbered};
 
-// The columns of the table.
-pub const CELL: usize = 0;
+#[derive(Clone, Copy, Debug, PartialEq, Eq)]
+pub enum Operation {
+    Load = 1,
+    StoreConstant,
+    StoreRegister,
+    Fence,
+    CompareSwap,
+    AcquireLocal,
+    AcquireShared,
+    Release,
+    Branch,
+    Add,
+}
 
-pub const REGISTER: usize = 1;
+// A number that no operation has.
+#[derive(Clone, Copy, Debug, PartialEq, Eq)]
+pub struct UnknownOperation(pub u16);
 
-pub const VALUE: usize = 2;
+// The fields of an instruction beside its operation: the columns of the table.
+#[derive(Clone, Copy, Debug, PartialEq, Eq)]
+pub enum Field {
+    Cell,
+    Register,
+    Value,
+}
 
-// The operations are numbered from 1; row k is operation k + 1.
-pub const LAST: usize = 10;
-
-// 1: used. 0: must be zero.
-const USES: [[u8; 3]; LAST] = [
-    [1, 1, 0], // LOAD
-    [1, 0, 1], // STORE CONSTANT
-    [1, 1, 0], // STORE REGISTER
-    [0, 0, 0], // FENCE
-    [1, 1, 1], // COMPARE-SWAP
-    [1, 0, 0], // ACQUIRE LOCAL
-    [1, 0, 0], // ACQUIRE SHARED
-    [1, 0, 0], // RELEASE
-    [1, 1, 1], // BRANCH
-    [0, 1, 1], // ADD
+// Whether an operation uses a field, which is zero where it does not. A row for each operation, in the order of their numbers.
+const USES: [[bool; 3]; 10] = [
+    [true, true, false], // Load
+    [true, false, true], // StoreConstant
+    [true, true, false], // StoreRegister
+    [false, false, false], // Fence
+    [true, true, true], // CompareSwap
+    [true, false, false], // AcquireLocal
+    [true, false, false], // AcquireShared
+    [true, false, false], // Release
+    [true, true, true], // Branch
+    [false, true, true], // Add
 ];
 
-// Whether an operation uses a field.
-#[tactic(auto, unfolding(crate::specs::Operations::uses_of))]
-pub fn uses(operation: usize, field: usize) -> u8
-    requires { (1 ≤ operation) × (operation ≤ OPERATIONS) × (field < 3) }
-    ensures { result ≡ uses_of operation field }
-{
-    USES[operation - 1][field]
+impl Operation {
+    // Whether the operation uses a field.
+    #[tactic(auto, unfolding(crate::specs::Operations::uses_of))]
+    pub fn uses(self, field: Field) -> bool
+        ensures { from_bool result ≡ uses_of (number_of self) (column_of field) }
+    {
+        USES[self as usize - 1][field as usize]
+    }
+}
+
+impl TryFrom<u16> for Operation {
+    type Error = UnknownOperation;
+
+    ghost try_from_gives = { Numbered };
+
+    fn try_from(number: u16) -> Result<Self, UnknownOperation> {
+        match number {
+            1 => Ok(Self::Load),
+            2 => Ok(Self::StoreConstant),
+            3 => Ok(Self::StoreRegister),
+            4 => Ok(Self::Fence),
+            5 => Ok(Self::CompareSwap),
+            6 => Ok(Self::AcquireLocal),
+            7 => Ok(Self::AcquireShared),
+            8 => Ok(Self::Release),
+            9 => Ok(Self::Branch),
+            10 => Ok(Self::Add),
+            _ => Err(UnknownOperation(number)),
+        }
+    }
 }

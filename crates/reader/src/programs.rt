@@ -9,14 +9,18 @@ use crate::{bytes, judged, rules};
 
 #[tactic(auto, unfolding(crate::specs::Case::instruction_judged, crate::specs::Case::field))]
 fn instruction(case: &[u8], cells: usize, count: usize, at: usize) -> Judged
-    requires { count ≤ INSTRUCTIONS }
     ensures { result ≡ instruction_judged case.now cells count at }
 {
-    if bytes::left(case, at) < rules::INSTRUCTION_BYTES {
+    if case.len().saturating_sub(at) < rules::INSTRUCTION_BYTES {
         return judged::missing(at);
     }
     let wrong = rules::instruction_wrong(cells, count, bytes::instruction_at(case, at));
-    judged::verdict(rules::INSTRUCTION_BYTES, 7, at, wrong)
+    judged::verdict(
+        rules::INSTRUCTION_BYTES,
+        7,
+        at,
+        wrong.unwrap_or(rules::INSTRUCTION_BYTES),
+    )
 }
 
 // The instructions of row t, of which there are `count`.
@@ -61,7 +65,7 @@ fn program(case: &[u8], t: usize, part: Part) -> Part
             state: s,
         };
     }
-    let count = bytes::wide(case[at]);
+    let count = usize::from(case[at]);
     s.counts[t] = count;
     let counted = Part {
         judged: j,

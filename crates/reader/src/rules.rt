@@ -1,127 +1,79 @@
 // What a cell, an instruction and an item of a case may hold, judged on values and not on bytes.
-ghost use Rattle.std.specs.Prelude.{◌≡◌, ◌<◌, ◌≤◌};
-ghost use Rattle.reader.specs.Limits.{THREADS, INSTRUCTIONS};
-ghost use Rattle.reader.specs.Operations.{OPERATIONS};
-ghost use Rattle.reader.specs.Rules.{within, cell_wrong, fits_of, bound_of, cell_fits, register_fits, value_fits, instruction_wrong, item_fits};
+ghost use Rattle.std.specs.Prelude.{◌≡◌, ◌<◌, eqb, ltb, leb, unwrap_or, IfSome};
+ghost use Rattle.std.specs.Int.{from_bool};
+ghost use Rattle.reader.specs.Operations.{CELL, uses_of, number_of};
+ghost use Rattle.reader.specs.Rules.{cell_bytes, cell_wrong, fits_of, bound_of, instruction_bytes, instruction_wrong, item_fits};
 
-use crate::operations;
+use crate::operations::{Field, Operation};
 use crate::state::{Instruction, State};
 
 pub const CELL_BYTES: usize = 6;
 
 pub const INSTRUCTION_BYTES: usize = 7;
 
-const BRANCH: usize = 9;
-
-#[tactic(auto, unfolding(crate::specs::Rules::within))]
-pub fn is_within(low: usize, high: usize, x: usize) -> bool
-    ensures { result ≡ within low high x }
-{
-    if x < low {
-        return false;
-    }
-    x <= high
-}
-
-// Where a cell record is first wrong, as an offset into its bytes, or else its length.
+// Where a cell record is first wrong, as an offset into its bytes.
 #[tactic(auto, unfolding(crate::specs::Rules::cell_wrong))]
-pub fn cell_wrong(threads: usize, owner: u8, sharing: u8) -> usize
-    ensures { result ≡ cell_wrong threads owner sharing }
+pub fn cell_wrong(threads: usize, owner: u8, sharing: u8) -> Option<usize>
+    ensures first { unwrap_or result cell_bytes ≡ cell_wrong threads owner sharing }
+    ensures inside { IfSome result (λ k. k < cell_bytes) }
 {
-    if threads < owner as usize {
-        return 4;
+    if threads < usize::from(owner) {
+        return Some(4);
     }
-    if 1 < sharing {
-        return 5;
+    if 1 < sharing || (owner == 0 && sharing == 0) {
+        return Some(5);
     }
-    if owner as usize + sharing as usize == 0 {
-        return 5;
-    }
-    CELL_BYTES
+    None
 }
 
+// A field that is used is below its bound, another is zero.
 #[tactic(auto, unfolding(crate::specs::Rules::fits_of))]
-fn fits(used: u8, bound: usize, x: usize) -> bool
-    ensures { result ≡ fits_of used bound x }
+fn fits(used: bool, bound: usize, x: u8) -> bool
+    ensures { result ≡ fits_of (from_bool used) bound x }
 {
-    if used == 0 {
-        return x == 0;
-    }
-    x < bound
+    if used { usize::from(x) < bound } else { x == 0 }
 }
 
-// What an instruction's cell byte is below.
-#[tactic(auto, unfolding(crate::specs::Rules::bound_of))]
-fn bound(operation: usize, cells: usize, count: usize) -> usize
-    requires { count ≤ INSTRUCTIONS }
-    ensures { result ≡ bound_of operation cells count }
+// The cell byte of an instruction: the target of a branch may be the count itself.
+#[tactic(auto, unfolding(crate::specs::Operations::uses_of, crate::specs::Rules::fits_of, crate::specs::Rules::bound_of))]
+fn cell_fits(operation: Operation, cells: usize, count: usize, cell: u8) -> bool
+    ensures { result ≡ fits_of (uses_of (number_of operation) CELL) (bound_of (number_of operation) cells count) cell }
 {
-    if operation == BRANCH {
-        count + 1
-    } else {
-        cells
+    match operation {
+        Operation::Branch => usize::from(cell) <= count,
+        _ => fits(operation.uses(Field::Cell), cells, cell),
     }
 }
 
-#[tactic(auto, unfolding(crate::specs::Rules::cell_fits))]
-fn cell_fits(cells: usize, count: usize, i: Instruction) -> bool
-    requires { (1 ≤ i.operation) × (i.operation ≤ OPERATIONS) × (count ≤ INSTRUCTIONS) }
-    ensures { result ≡ cell_fits cells count i }
+// Where an instruction is first wrong, as an offset into its bytes.
+#[tactic(auto, unfolding(crate::specs::Rules::instruction_wrong, crate::specs::Rules::cell_fits, crate::specs::Rules::register_fits, crate::specs::Rules::value_fits, crate::specs::Rules::within))]
+pub fn instruction_wrong(cells: usize, count: usize, i: Instruction) -> Option<usize>
+    ensures first { unwrap_or result instruction_bytes ≡ instruction_wrong cells count i }
+    ensures inside { IfSome result (λ k. k < instruction_bytes) }
 {
-    let operation = i.operation as usize;
-    let used = operations::uses(operation, operations::CELL);
-    fits(used, bound(operation, cells, count), i.cell as usize)
-}
-
-#[tactic(auto, unfolding(crate::specs::Rules::register_fits))]
-fn register_fits(i: Instruction) -> bool
-    requires { (1 ≤ i.operation) × (i.operation ≤ OPERATIONS) }
-    ensures { result ≡ register_fits i }
-{
-    let used = operations::uses(i.operation as usize, operations::REGISTER);
-    fits(used, State::REGISTERS, i.register as usize)
-}
-
-#[tactic(auto, unfolding(crate::specs::Rules::value_fits))]
-fn value_fits(i: Instruction) -> bool
-    requires { (1 ≤ i.operation) × (i.operation ≤ OPERATIONS) }
-    ensures { result ≡ value_fits i }
-{
-    if operations::uses(i.operation as usize, operations::VALUE) == 0 {
-        return i.value == 0;
+    let Ok(operation) = Operation::try_from(i.operation) else {
+        return Some(0);
+    };
+    if !cell_fits(operation, cells, count, i.cell) {
+        return Some(1);
     }
-    true
-}
-
-// Where an instruction is first wrong, as an offset into its bytes, or else its length.
-#[tactic(auto, unfolding(crate::specs::Rules::instruction_wrong, crate::specs::Rules::within))]
-pub fn instruction_wrong(cells: usize, count: usize, i: Instruction) -> usize
-    requires { count ≤ INSTRUCTIONS }
-    ensures { result ≡ instruction_wrong cells count i }
-{
-    if !is_within(1, operations::LAST, i.operation as usize) {
-        return 0;
+    if !fits(
+        operation.uses(Field::Register),
+        State::REGISTERS,
+        i.register,
+    ) {
+        return Some(2);
     }
-    if !cell_fits(cells, count, i) {
-        return 1;
+    if i.value != 0 && !operation.uses(Field::Value) {
+        return Some(3);
     }
-    if !register_fits(i) {
-        return 2;
-    }
-    if !value_fits(i) {
-        return 3;
-    }
-    INSTRUCTION_BYTES
+    None
 }
 
 // Whether a byte is an item of so many threads.
-#[tactic(auto, unfolding(crate::specs::Rules::item_fits))]
+#[tactic(auto, unfolding(crate::specs::Rules::item_fits, crate::specs::Rules::within))]
 pub fn item_fits(threads: usize, x: usize) -> bool
-    requires { threads ≤ THREADS }
     ensures { result ≡ item_fits threads x }
 {
-    if is_within(1, threads, x) {
-        return true;
-    }
-    is_within(17, 16 + threads, x)
+    (1..=threads).contains(&x) || (17 <= x && x - 16 <= threads)
 }

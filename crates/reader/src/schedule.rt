@@ -1,6 +1,5 @@
 // The schedule of a case, which stays where it stands: only judged here.
 ghost use Rattle.std.specs.Prelude.{◌≡◌, ◌≤◌};
-ghost use Rattle.reader.specs.Limits.{THREADS};
 ghost use Rattle.reader.specs.Case.{item_judged, items_judged, item_count_judged, schedule_judged};
 
 use crate::judged::Judged;
@@ -10,19 +9,17 @@ use crate::{bytes, judged, rules};
 // The k-th item, which stands where j says.
 #[tactic(auto, unfolding(crate::specs::Case::item_judged, crate::specs::Case::field))]
 fn item(case: &[u8], threads: usize, k: usize, j: Judged) -> Judged
-    requires { threads ≤ THREADS }
     ensures { result ≡ item_judged case.now threads k j }
 {
     let at = j.place;
-    if bytes::left(case, at) < 1 {
+    if case.len().saturating_sub(at) < 1 {
         return judged::missing(at);
     }
-    let ok = rules::item_fits(threads, bytes::wide(case[at]));
+    let ok = rules::item_fits(threads, usize::from(case[at]));
     judged::verdict(1, 8, at, judged::whole_if(ok, 1))
 }
 
 fn items(case: &[u8], threads: usize, n: usize, at: usize) -> Judged
-    requires { threads ≤ THREADS }
     ensures { result ≡ items_judged case.now threads n at }
 {
     let mut j = Judged {
@@ -45,23 +42,22 @@ fn items(case: &[u8], threads: usize, n: usize, at: usize) -> Judged
 fn count(case: &[u8], at: usize) -> Judged
     ensures { result ≡ item_count_judged case.now at }
 {
-    if bytes::left(case, at) < 2 {
+    if case.len().saturating_sub(at) < 2 {
         return judged::missing(at);
     }
-    let ok = bytes::pair(case[at], case[at + 1]) <= State::ITEMS;
+    let ok = bytes::pair_at(case, at) <= State::ITEMS;
     judged::verdict(2, 4, at, judged::whole_if(ok, 2))
 }
 
 // The count, the items, and that nothing is left over.
 pub fn judge(case: &[u8], threads: usize, at: usize) -> Judged
-    requires { threads ≤ THREADS }
     ensures { result ≡ schedule_judged case.now threads at }
 {
     let counted = count(case, at);
     if counted.number != 0 {
         return counted;
     }
-    let n = bytes::pair(case[at], case[at + 1]);
+    let n = bytes::pair_at(case, at);
     let j = items(case, threads, n, at + 2);
     if j.number != 0 {
         return j;

@@ -8,17 +8,13 @@ use reader::rules;
 use reader::state::{Queue, State};
 
 // The number of threads, of cells, and the depth.
-#[tactic(auto, unfolding(crate::specs::Range::sizes_fit))]
+#[tactic(auto, unfolding(crate::specs::Range::sizes_fit, reader::specs::Rules::within))]
 fn sizes_fit(s: State) -> bool
     ensures { result ≡ sizes_fit s }
 {
-    if !rules::is_within(1, State::THREADS, s.threads) {
-        return false;
-    }
-    if !rules::is_within(1, State::CELLS, s.cells) {
-        return false;
-    }
-    rules::is_within(1, State::DEPTH, s.depth)
+    (1..=State::THREADS).contains(&s.threads)
+        && (1..=State::CELLS).contains(&s.cells)
+        && (1..=State::DEPTH).contains(&s.depth)
 }
 
 // Owners and sharing marks, as a case could hold them.
@@ -29,7 +25,7 @@ fn cells_fit(s: State) -> bool
     let mut n = s.cells;
     while 0 < n {
         let c = n - 1;
-        if rules::cell_wrong(s.threads, s.owners[c], s.sharing[c]) < rules::CELL_BYTES {
+        if rules::cell_wrong(s.threads, s.owners[c], s.sharing[c]).is_some() {
             return false;
         }
         n = c;
@@ -51,7 +47,7 @@ fn program_fits(s: State, t: usize) -> bool
         let k = n - 1;
         let p = effect::code_place(t, k);
         let i = s.code[p];
-        if rules::instruction_wrong(s.cells, count, i) < rules::INSTRUCTION_BYTES {
+        if rules::instruction_wrong(s.cells, count, i).is_some() {
             return false;
         }
         n = k;

@@ -1,6 +1,6 @@
 -- The parts in turn: each return by the law of the part that led to it.
 use Rattle.std.proofs.Common.{arith}
-use Rattle.reader.proofs.Parts.{sizes_fine, front_off, sizes_off, cells_off, programs_off, parts_fine, threads_celled, threads_programmed}
+use Rattle.reader.proofs.Parts.{sizes_fine, front_off, sizes_off, cells_off, programs_off, parts_fine, threads_celled}
 use Rattle.reader.proofs.read.Goals as goal
 
 pub returns-then-j-ne0 : goal.returns-then-j-ne0
@@ -32,10 +32,6 @@ read-a-requires c =
 pub returns-then-m-ne0 : goal.returns-then-m-ne0
 returns-then-m-ne0 c =
     programs_off _ c.front-j.ensures c.if-j-ne0.false c.sizes-k.ensures c.if-k-ne0.false c.sized-state.ensures c.read-c.ensures c.if-l-ne0.false c.read-a.ensures c.if-m-ne0.true c.refused-then-m-ne0.ensures
-
-pub scheduled-requires : goal.scheduled-requires
-scheduled-requires c =
-    threads_programmed _ (rw c.sizes-k.ensures at c.if-k-ne0.false) c.sized-state.ensures c.read-c.ensures c.read-a.ensures
 
 pub returns : goal.returns
 returns c =

@@ -9,18 +9,12 @@ pub returns-then-j-ne0 : goal.returns-then-j-ne0
 unfolding scheduled_of
 returns-then-j-ne0 c = rw (sym c.judge-j.ensures, ne_eqb _ _ c.if-j-ne0.true) c.refused.ensures
 
-pub bounds-case-at : goal.bounds-case-at
-bounds-case-at c = let h = schedule_there _ _ _ (rw c.judge-j.ensures at c.if-j-ne0.false) in omega arith
-
-pub overflow_add-at : goal.overflow_add-at
-overflow_add-at c = let h = schedule_there _ _ _ (rw c.judge-j.ensures at c.if-j-ne0.false) in omega arith
-
-pub bounds-case-at-2 : goal.bounds-case-at-2
-bounds-case-at-2 c = let h = schedule_there _ _ _ (rw c.judge-j.ensures at c.if-j-ne0.false) in omega arith
+pub pair_at-items-requires : goal.pair_at-items-requires
+pair_at-items-requires c = let h = schedule_there _ _ _ (rw c.judge-j.ensures at c.if-j-ne0.false) in omega arith
 
 pub overflow_add-result : goal.overflow_add-result
 overflow_add-result c = let h = schedule_there _ _ _ (rw c.judge-j.ensures at c.if-j-ne0.false) in omega arith
 
 pub returns : goal.returns
 unfolding scheduled_of
-returns c = rw (sym c.judge-j.ensures, eq-eqb _ _ c.if-j-ne0.false, sym c.pair-items.ensures)
+returns c = rw (sym c.judge-j.ensures, eq-eqb _ _ c.if-j-ne0.false, sym c.pair_at-items.ensures)

@@ -20,4 +20,4 @@ instructions-requires c =
 pub returns : goal.returns
 returns c =
     let a = c.args.part in
-    c.instructions.ensures ∙ program_on _ a.judged _ a.state _ c.count-j.ensures c.if-j-ne0.false _ c.wide-count.ensures
+    c.instructions.ensures ∙ program_on _ a.judged _ a.state _ c.count-j.ensures c.if-j-ne0.false _ c.from-count.ensures

@@ -9,29 +9,23 @@ pub returns-then-counted-ne0 : goal.returns-then-counted-ne0
 unfolding schedule_judged
 returns-then-counted-ne0 c = rw (sym c.count-counted.ensures, ne_eqb _ _ c.if-counted-ne0.true)
 
-pub bounds-case-at : goal.bounds-case-at
-bounds-case-at c = let h = item_count_there _ _ (rw c.count-counted.ensures at c.if-counted-ne0.false) in omega arith
+pub pair_at-n-requires : goal.pair_at-n-requires
+pair_at-n-requires c = let h = item_count_there _ _ (rw c.count-counted.ensures at c.if-counted-ne0.false) in omega arith
 
 pub overflow_add-at : goal.overflow_add-at
 overflow_add-at c = let h = item_count_there _ _ (rw c.count-counted.ensures at c.if-counted-ne0.false) in omega arith
 
-pub bounds-case-at-2 : goal.bounds-case-at-2
-bounds-case-at-2 c = let h = item_count_there _ _ (rw c.count-counted.ensures at c.if-counted-ne0.false) in omega arith
-
-pub overflow_add-at-2 : goal.overflow_add-at-2
-overflow_add-at-2 c = let h = item_count_there _ _ (rw c.count-counted.ensures at c.if-counted-ne0.false) in omega arith
-
 pub returns-then-j-ne0 : goal.returns-then-j-ne0
 unfolding schedule_judged
 returns-then-j-ne0 c =
-    rw (sym c.count-counted.ensures, eq-eqb _ _ c.if-counted-ne0.false, sym c.pair-n.ensures, sym c.items-j.ensures, ne_eqb _ _ c.if-j-ne0.true)
+    rw (sym c.count-counted.ensures, eq-eqb _ _ c.if-counted-ne0.false, sym c.pair_at-n.ensures, sym c.items-j.ensures, ne_eqb _ _ c.if-j-ne0.true)
 
 pub returns-then-end-case : goal.returns-then-end-case
 unfolding schedule_judged
 returns-then-end-case c =
-    rw (sym c.count-counted.ensures, eq-eqb _ _ c.if-counted-ne0.false, sym c.pair-n.ensures, sym c.items-j.ensures, eq-eqb _ _ c.if-j-ne0.false, lt-leb _ _ c.if-end-case.true) c.missing.ensures
+    rw (sym c.count-counted.ensures, eq-eqb _ _ c.if-counted-ne0.false, sym c.pair_at-n.ensures, sym c.items-j.ensures, eq-eqb _ _ c.if-j-ne0.false, lt-leb _ _ c.if-end-case.true) c.missing.ensures
 
 pub returns : goal.returns
 unfolding schedule_judged
 returns c =
-    rw (sym c.count-counted.ensures, eq-eqb _ _ c.if-counted-ne0.false, sym c.pair-n.ensures, sym c.items-j.ensures, eq-eqb _ _ c.if-j-ne0.false, le-leb _ _ c.if-end-case.false)
+    rw (sym c.count-counted.ensures, eq-eqb _ _ c.if-counted-ne0.false, sym c.pair_at-n.ensures, sym c.items-j.ensures, eq-eqb _ _ c.if-j-ne0.false, le-leb _ _ c.if-end-case.false)

@@ -1,4 +1,4 @@
-use Rattle.std.proofs.Common.{◌∙◌, arith}
+use Rattle.std.proofs.Common.{sym, ◌∙◌, arith}
 use borrow.Author.Tests.{lt-leb, le-leb}
 use Rattle.stepping.specs.Range.{instruction_fits, program_fits}
 use Rattle.stepping.proofs.All.{all_none, all_fails, all_passes}
@@ -9,17 +9,17 @@ pub returns-then-count-gt-INSTRUCTIONS : goal.returns-then-count-gt-INSTRUCTIONS
 unfolding program_fits
 returns-then-count-gt-INSTRUCTIONS c = rw (lt-leb _ _ c.if-count-gt-INSTRUCTIONS.true)
 
-pub returns-then-instruction_wrong-lt-INSTRUCTION_BYTES : goal.returns-then-instruction_wrong-lt-INSTRUCTION_BYTES
+pub returns-then-is_some : goal.returns-then-is_some
 unfolding program_fits
-returns-then-instruction_wrong-lt-INSTRUCTION_BYTES c =
-    let w = rw c.code_place-p.ensures at c.instruction_wrong.ensures in
-    let e = c.loop-n.invariant.1 ∙ all_fails (instruction_fits c.args.s c.args.t) c.loop-n.n (omega arith) (short w c.if-instruction_wrong-lt-INSTRUCTION_BYTES.true) in
+returns-then-is_some c =
+    let w = rw c.code_place-p.ensures at c.instruction_wrong.ensures.first in
+    let e = c.loop-n.invariant.1 ∙ all_fails (instruction_fits c.args.s c.args.t) c.loop-n.n (omega arith) (short c.instruction_wrong.result _ w c.instruction_wrong.ensures.inside (sym c.is_some.ensures ∙ c.if-is_some.true)) in
     rw (le-leb _ _ c.if-count-gt-INSTRUCTIONS.false, e)
 
 pub loop-n-preserved : goal.loop-n-preserved
 loop-n-preserved c =
-    let w = rw c.code_place-p.ensures at c.instruction_wrong.ensures in
-    (omega arith, c.loop-n.invariant.1 ∙ all_passes (instruction_fits c.args.s c.args.t) c.loop-n.n (omega arith) (long w c.if-instruction_wrong-lt-INSTRUCTION_BYTES.false))
+    let w = rw c.code_place-p.ensures at c.instruction_wrong.ensures.first in
+    (omega arith, c.loop-n.invariant.1 ∙ all_passes (instruction_fits c.args.s c.args.t) c.loop-n.n (omega arith) (long c.instruction_wrong.result _ w c.instruction_wrong.ensures.inside (sym c.is_some.ensures ∙ c.if-is_some.false)))
 
 pub returns : goal.returns
 unfolding program_fits
