@@ -5,6 +5,7 @@ ghost use Rattle.reader.specs.Limits.{INSTRUCTIONS};
 ghost use Rattle.machine.specs.Action.{action_of};
 
 use crate::integer;
+use reader::operations::Operation;
 use reader::state::Instruction;
 
 #[derive(Clone, Copy, Debug, PartialEq, Eq)]
@@ -37,45 +38,45 @@ impl Action {
         requires { at < INSTRUCTIONS }
         ensures { result ≡ action_of i at content }
     {
+        let Ok(operation) = Operation::try_from(i.operation) else {
+            return Action::End;
+        };
         let cell = i.cell;
-        match i.operation {
-            1 => Action::Read { cell },
-            2 => Action::Store {
+        let next = at + 1;
+        match operation {
+            Operation::Load => Action::Read { cell },
+            Operation::StoreConstant => Action::Store {
                 cell,
                 value: i.value,
             },
-            3 => Action::Store {
+            Operation::StoreRegister => Action::Store {
                 cell,
                 value: content,
             },
-            4 => Action::Fence,
-            5 => Action::Swap {
+            Operation::Fence => Action::Fence,
+            Operation::CompareSwap => Action::Swap {
                 cell,
                 old: content,
                 new: i.value,
             },
-            6 => Action::Acquire {
+            Operation::AcquireLocal => Action::Acquire {
                 cell,
                 sharing: Action::LOCAL,
             },
-            7 => Action::Acquire {
+            Operation::AcquireShared => Action::Acquire {
                 cell,
                 sharing: Action::SHARED,
             },
-            8 => Action::Release { cell },
-            9 if content == i.value => Action::Silent {
-                next: cell as usize,
+            Operation::Release => Action::Release { cell },
+            Operation::Branch if content == i.value => Action::Silent {
+                next: usize::from(cell),
                 content,
             },
-            9 => Action::Silent {
-                next: at + 1,
-                content,
-            },
-            10 => Action::Silent {
-                next: at + 1,
+            Operation::Branch => Action::Silent { next, content },
+            Operation::Add => Action::Silent {
+                next,
                 content: integer::sum(content, i.value),
             },
-            _ => Action::End,
         }
     }
 }

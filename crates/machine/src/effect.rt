@@ -9,6 +9,7 @@ ghost use Rattle.machine.specs.Look.{Lookable};
 use crate::action::Action;
 use crate::buffer;
 use crate::hurdle::Hurdle;
+use reader::operations::Operation;
 use reader::state::{Instruction, Pending, Queue, State};
 
 // What an instruction finds: its thread's position, its register's content, and its cell's word in memory.
@@ -48,10 +49,11 @@ pub struct Effect {
 pub fn cell_of(i: Instruction) -> usize
     ensures { result ≡ cell_of i }
 {
-    if i.operation == 9 {
-        return 0;
+    if i.operation == Operation::Branch as u16 {
+        0
+    } else {
+        usize::from(i.cell)
     }
-    i.cell as usize
 }
 
 // Where the register of an instruction of row t stands.
@@ -59,7 +61,7 @@ pub fn register_place(t: usize, i: Instruction) -> usize
     requires { t < THREADS }
     ensures { result ≡ register_place t i.register }
 {
-    t * State::REGISTERS + i.register as usize
+    t * State::REGISTERS + usize::from(i.register)
 }
 
 // Where instruction k of row t stands.
