@@ -10,7 +10,8 @@ use Rattle.reader.specs.Limits.{DEPTH}
 use Rattle.reader.specs.State.{outside_queue, queue_of, position_of}
 use Rattle.reader.specs.Queue.{popped_of}
 use Rattle.reader.specs.Drain.{drained_of}
-use Rattle.machine.specs.Action.{action_of, fence, current_of, next_of}
+use Rattle.machine.specs.declared.action.Action.TheVariants.{Fence}
+use Rattle.machine.specs.Action.{action_of, current_of, next_of}
 use Rattle.machine.specs.Effect.{guard, blocked_of, took_of}
 use Rattle.machine.specs.Step.{next_effect}
 use Rattle.machine.proofs.InRange.{next_goes}
@@ -68,7 +69,7 @@ module _ {t : ℕ} where
   waits {s} w (other_drains u ne z r) = waits (rw (drain_taken s u z) (waits_drained ne w)) r
 
   -- a FENCE with an empty buffer is taken
-  fence_next : {s : State} → AtFence s t → next_of s t ≡ fence
+  fence_next : {s : State} → AtFence s t → next_of s t ≡ Fence
   unfolding action_of
   fence_next {s} a = let e = a.fence in next_goes s t a.goes ∙ rw e
 

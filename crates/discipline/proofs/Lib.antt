@@ -1,4 +1,5 @@
 pub mod Searches
+pub mod Reasons
 pub mod Decided
 pub mod Holding
 pub mod Maps

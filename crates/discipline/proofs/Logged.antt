@@ -12,7 +12,8 @@ use borrow.Author.Tests.{eqb-true, eq-eqb, ne_eqb, leb-true, lt-leb}
 use Rattle.reader.specs.declared.state.State.{State}
 use Rattle.reader.specs.State.{position_of}
 use Rattle.reader.specs.Rules.{pick}
-use Rattle.machine.specs.Action.{Action, next_of}
+use Rattle.machine.specs.declared.action.Action.{Action}
+use Rattle.machine.specs.Action.{next_of}
 use Rattle.machine.specs.Run.{Outcome, Ran, run_of, values_of}
 use Rattle.discipline.specs.OneMemory.{carries, reads, path_of, reads_of}
 use Rattle.discipline.proofs.Maps.{upd, upd_same, upd_other, at_or}

@@ -12,14 +12,15 @@ use Rattle.reader.specs.declared.state.State.{State}
 use Rattle.reader.specs.State.{queue_of}
 use Rattle.reader.specs.Rules.{pick}
 use Rattle.reader.proofs.Tests.{false_true}
-use Rattle.machine.specs.Action.{Action, read, store, fence, swap, acquire, release, silent, end, next_of}
+use Rattle.machine.specs.declared.action.Action.{Action}
+use Rattle.machine.specs.declared.action.Action.TheVariants.{Read, Store, Fence, Swap, Acquire, Release, Silent, End}
+use Rattle.machine.specs.Action.{next_of}
 use Rattle.machine.specs.Effect.{guard, pends, blocked_of}
 use Rattle.machine.specs.Run.{Outcome, Ran, unless, run_of}
 use Rattle.machine.specs.Step.{take_step, drain_step}
 use Rattle.discipline.specs.Table.{owned, owns, others, is_local, is_dirty}
 use Rattle.discipline.specs.Rules.{load_breaks, store_breaks, acquire_breaks, release_breaks, broken_of}
-use Rattle.discipline.specs.Decide.{judged_of}
-use Rattle.discipline.specs.Step.{next_held, next_elsewhere, next_broken, checked_take, checked_of}
+use Rattle.discipline.specs.Step.{judged_of, next_held, next_elsewhere, next_broken, checked_take, checked_of}
 use Rattle.discipline.specs.Meaning.{Against, at_end, fence_waits, swap_waits, buffer_full, load_local, load_dirty, store_others, swap_others, acquire_owned, acquire_pending, release_others, release_waits, Stops, stops_take, stops_drain, Least, Taken, none, more}
 
 -- a number and what it says of a relation: the smallest that stands, or 0 and none does
@@ -72,47 +73,47 @@ module _ (s : State) (t : ℕ) where
   abbrev pub judged_as : Action → ℕ
   judged_as a = judged_of (blocked_of s.depth (queue_of s t) a) (broken_of t (next_held s t) (queue_of s t) (next_elsewhere s t) a)
 
-  read_cases : {c : ℕ} (m : ℕ) → Against s t (read c) m → Either (not (owns (next_held s t) t) && is_local (next_held s t)) (not (owns (next_held s t) t) && (not (is_local (next_held s t)) && is_dirty (next_held s t))) 30 31 m
+  read_cases : {c : ℕ} (m : ℕ) → Against s t (Read c) m → Either (not (owns (next_held s t) t) && is_local (next_held s t)) (not (owns (next_held s t) t) && (not (is_local (next_held s t)) && is_dirty (next_held s t))) 30 31 m
   read_cases m (load_local o l) = first (rw (o, l)) refl
   read_cases m (load_dirty o l d) = second (rw (o, l, d)) refl
 
-  store_cases : {c : ℕ} {x : ℤ} (m : ℕ) → Against s t (store c x) m → Either (leb s.depth (queue_of s t).count) (others (next_held s t) t) 22 32 m
+  store_cases : {c : ℕ} {x : ℤ} (m : ℕ) → Against s t (Store c x) m → Either (leb s.depth (queue_of s t).count) (others (next_held s t) t) 22 32 m
   store_cases m (buffer_full h) = first h refl
   store_cases m (store_others h) = second h refl
 
-  fence_cases : (m : ℕ) → Against s t fence m → (pends (queue_of s t) ≡ true) × (m ≡ 21)
+  fence_cases : (m : ℕ) → Against s t Fence m → (pends (queue_of s t) ≡ true) × (m ≡ 21)
   fence_cases m (fence_waits h) = (h, refl)
 
-  swap_cases : {c : ℕ} {old x : ℤ} (m : ℕ) → Against s t (swap c old x) m → Either (pends (queue_of s t)) (others (next_held s t) t) 21 32 m
+  swap_cases : {c : ℕ} {old x : ℤ} (m : ℕ) → Against s t (Swap c old x) m → Either (pends (queue_of s t)) (others (next_held s t) t) 21 32 m
   swap_cases m (swap_waits h) = first h refl
   swap_cases m (swap_others h) = second h refl
 
-  acquire_cases : {c mark : ℕ} (m : ℕ) → Against s t (acquire c mark) m → Either (owned (next_held s t)) (next_elsewhere s t) 33 34 m
+  acquire_cases : {c mark : ℕ} (m : ℕ) → Against s t (Acquire c mark) m → Either (owned (next_held s t)) (next_elsewhere s t) 33 34 m
   acquire_cases m (acquire_owned h) = first h refl
   acquire_cases m (acquire_pending h) = second h refl
 
-  release_cases : {c : ℕ} (m : ℕ) → Against s t (release c) m → Either (not (owns (next_held s t) t)) (pends (queue_of s t)) 35 36 m
+  release_cases : {c : ℕ} (m : ℕ) → Against s t (Release c) m → Either (not (owns (next_held s t) t)) (pends (queue_of s t)) 35 36 m
   release_cases m (release_others h) = first (rw h) refl
   release_cases m (release_waits h) = second h refl
 
-  silent_cases : {n : ℕ} {x : ℤ} (m : ℕ) → Against s t (silent n x) m → ⊥
+  silent_cases : {n : ℕ} {x : ℤ} (m : ℕ) → Against s t (Silent n x) m → ⊥
   silent_cases m = elim [ ]
 
-  end_cases : (m : ℕ) → Against s t end m → m ≡ 20
+  end_cases : (m : ℕ) → Against s t End m → m ≡ 20
   end_cases m at_end = refl
 
   judges : (a : Action) → Judges (Against s t a) (judged_as a)
   unfolding blocked_of broken_of load_breaks store_breaks acquire_breaks release_breaks
-  judges (read c) =
+  judges (Read c) =
       two _ _ 30 31 (omega arith) (omega arith)
       (λ e. let b = split_and _ _ e in load_local (not-true _ b.0) b.1) (λ e. let b = split_and _ _ e in let d = split_and _ _ b.1 in load_dirty (not-true _ b.0) (not-true _ d.0) d.1) read_cases
-  judges (store c x) = rw (judged_guard (leb s.depth (queue_of s t).count) 22 (guard (others (next_held s t) t) 32 0) (omega arith)) (two _ _ 22 32 (omega arith) (omega arith) buffer_full store_others store_cases)
-  judges fence = rw (judged_guard (pends (queue_of s t)) 21 0 (omega arith)) (one _ 21 (omega arith) fence_waits fence_cases)
-  judges (swap c old x) = rw (judged_guard (pends (queue_of s t)) 21 (guard (others (next_held s t) t) 32 0) (omega arith)) (two _ _ 21 32 (omega arith) (omega arith) swap_waits swap_others swap_cases)
-  judges (acquire c mark) = two _ _ 33 34 (omega arith) (omega arith) acquire_owned acquire_pending acquire_cases
-  judges (release c) = two _ _ 35 36 (omega arith) (omega arith) (λ e. release_others (not-true _ e)) release_waits release_cases
-  judges (silent n x) = never silent_cases
-  judges end = record { stands = λ z. at_end; smallest = λ m r. (λ z. omega arith, let e = end_cases m r in omega arith) }
+  judges (Store c x) = rw (judged_guard (leb s.depth (queue_of s t).count) 22 (guard (others (next_held s t) t) 32 0) (omega arith)) (two _ _ 22 32 (omega arith) (omega arith) buffer_full store_others store_cases)
+  judges Fence = rw (judged_guard (pends (queue_of s t)) 21 0 (omega arith)) (one _ 21 (omega arith) fence_waits fence_cases)
+  judges (Swap c old x) = rw (judged_guard (pends (queue_of s t)) 21 (guard (others (next_held s t) t) 32 0) (omega arith)) (two _ _ 21 32 (omega arith) (omega arith) swap_waits swap_others swap_cases)
+  judges (Acquire c mark) = two _ _ 33 34 (omega arith) (omega arith) acquire_owned acquire_pending acquire_cases
+  judges (Release c) = two _ _ 35 36 (omega arith) (omega arith) (λ e. release_others (not-true _ e)) release_waits release_cases
+  judges (Silent n x) = never silent_cases
+  judges End = record { stands = λ z. at_end; smallest = λ m r. (λ z. omega arith, let e = end_cases m r in omega arith) }
 
 -- the number of a step is what is judged
 module _ (s : State) where

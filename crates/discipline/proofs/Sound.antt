@@ -9,7 +9,8 @@ use Rattle.reader.specs.declared.state.State.{State}
 use Rattle.reader.specs.State.{queue_of, position_of, count_of}
 use Rattle.reader.specs.Drain.{drained_of}
 use Rattle.reader.specs.Range.{CellIn}
-use Rattle.machine.specs.Action.{Action, action_of, current_of, next_of}
+use Rattle.machine.specs.declared.action.Action.{Action}
+use Rattle.machine.specs.Action.{action_of, current_of, next_of}
 use Rattle.machine.specs.Effect.{cell_of, blocked_of, took_of}
 use Rattle.machine.specs.Step.{next_effect}
 use Rattle.machine.proofs.Ten.{ten}

@@ -15,7 +15,9 @@ use Rattle.reader.specs.Range.{Shaped}
 use Rattle.machine.specs.Integer.{eq_z}
 use Rattle.machine.specs.declared.effect.Effect.{Effect}
 use Rattle.machine.specs.Buffer.{newest_of}
-use Rattle.machine.specs.Action.{Action, read, store, fence, swap, acquire, release, silent, end, current_of, next_of}
+use Rattle.machine.specs.declared.action.Action.{Action}
+use Rattle.machine.specs.declared.action.Action.TheVariants.{Read, Store, Fence, Swap, Acquire, Release, Silent, End}
+use Rattle.machine.specs.Action.{current_of, next_of}
 use Rattle.machine.specs.Effect.{cell_of, seen_of, effect_of, took_of}
 use Rattle.machine.specs.Run.{taken_of}
 use Rattle.machine.specs.Plain.{at_once, ended_of, plain_effect, plain_step, plain_of}
@@ -63,14 +65,14 @@ module _ {s : State} (g : Runnable s) {t : ℕ} (h : t < s.threads) (logs : ℕ 
   module _ (l : position_of s t < count_of s t) where
     acts : (a : Action) → About a c i.cell → ended_of a ≡ 0 → ◌≡◌ {A = Local × (ℕ → ℤ)} (act (acted lo r a) lo (memory_map s)) (after a)
     unfolding at_once effect_of seen_of newest_of ended_of
-    acts (read n) e z = pair_same (ap (λ (k : ℕ). went lo (read n) (position_of s t + 1) r (memory_of s k) (memory_of s k)) e) (sym (same_memory g h l logs))
-    acts (store n x) e z = pair_same (moved_on g h l logs (store n x) (position_of s t + 1)) (ap (λ (k : ℕ). upd (memory_map s) k x) e.0)
-    acts fence e z = pair_same (moved_on g h l logs fence (position_of s t + 1)) (sym (same_memory g h l logs))
-    acts (swap n old x) e z = pair_same (ap (λ (k : ℕ). went lo (swap n old x) (position_of s t + 1) r (memory_of s k) (memory_of s k)) e) (ap (λ (k : ℕ). upd (memory_map s) k (pick (eq_z (memory_of s k) old) x (memory_of s k))) e)
-    acts (acquire n mark) e z = pair_same (moved_on g h l logs (acquire n mark) (position_of s t + 1)) (sym (same_memory g h l logs))
-    acts (release n) e z = pair_same (moved_on g h l logs (release n) (position_of s t + 1)) (sym (same_memory g h l logs))
-    acts (silent n x) e z = pair_same refl (sym (same_memory g h l logs))
-    acts end e z = absurd (omega arith)
+    acts (Read n) e z = pair_same (ap (λ (k : ℕ). went lo (Read n) (position_of s t + 1) r (memory_of s k) (memory_of s k)) e) (sym (same_memory g h l logs))
+    acts (Store n x) e z = pair_same (moved_on g h l logs (Store n x) (position_of s t + 1)) (ap (λ (k : ℕ). upd (memory_map s) k x) e.0)
+    acts Fence e z = pair_same (moved_on g h l logs Fence (position_of s t + 1)) (sym (same_memory g h l logs))
+    acts (Swap n old x) e z = pair_same (ap (λ (k : ℕ). went lo (Swap n old x) (position_of s t + 1) r (memory_of s k) (memory_of s k)) e) (ap (λ (k : ℕ). upd (memory_map s) k (pick (eq_z (memory_of s k) old) x (memory_of s k))) e)
+    acts (Acquire n mark) e z = pair_same (moved_on g h l logs (Acquire n mark) (position_of s t + 1)) (sym (same_memory g h l logs))
+    acts (Release n) e z = pair_same (moved_on g h l logs (Release n) (position_of s t + 1)) (sym (same_memory g h l logs))
+    acts (Silent n x) e z = pair_same refl (sym (same_memory g h l logs))
+    acts End e z = absurd (omega arith)
 
     plain_took : (log : Log) → plain_view (took_of s t i (plain_effect s t)) (upd logs t log) ≡ record {
       mem = upd (memory_map s) c (plain_effect s t).word;

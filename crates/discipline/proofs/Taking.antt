@@ -25,7 +25,9 @@ use Rattle.reader.proofs.Row.{pending_pushed}
 use Rattle.machine.specs.declared.effect.Effect.{Effect}
 use Rattle.machine.specs.Integer.{eq_z}
 use Rattle.machine.specs.Buffer.{forwarded, after_of}
-use Rattle.machine.specs.Action.{Action, read, store, fence, swap, acquire, release, silent, end, LOCAL, action_of, current_of, next_of}
+use Rattle.machine.specs.declared.action.Action.{Action}
+use Rattle.machine.specs.declared.action.Action.TheVariants.{Read, Store, Fence, Swap, Acquire, Release, Silent, End}
+use Rattle.machine.specs.Action.{LOCAL, action_of, current_of, next_of}
 use Rattle.machine.specs.Effect.{cell_of, seen_of, blocked_of, effect_of, took_of, pushes, pushed_value}
 use Rattle.machine.specs.Run.{taken_of}
 use Rattle.machine.specs.Step.{next_effect}
@@ -49,14 +51,14 @@ use Rattle.discipline.proofs.Buffers.{oldest_first, forwarded_drained, nowhere_e
 
 -- the cell that an action names is its instruction's: c as the machine looks it up, b as the instruction holds it
 abbrev pub About : Action → ℕ → ℕ → Type 0
-About (read n) c b = n ≡ c
-About (store n x) c b = (n ≡ c) × (n ≡ b)
-About fence c b = Unit {0}
-About (swap n old x) c b = n ≡ c
-About (acquire n mark) c b = (n ≡ c) × (n ≡ b)
-About (release n) c b = n ≡ c
-About (silent n x) c b = Unit {0}
-About end c b = Unit {0}
+About (Read n) c b = n ≡ c
+About (Store n x) c b = (n ≡ c) × (n ≡ b)
+About Fence c b = Unit {0}
+About (Swap n old x) c b = n ≡ c
+About (Acquire n mark) c b = (n ≡ c) × (n ≡ b)
+About (Release n) c b = n ≡ c
+About (Silent n x) c b = Unit {0}
+About End c b = Unit {0}
 
 pub about : {s : State} (g : InRange s) {t : ℕ} (h : t < s.threads) (l : position_of s t < count_of s t) → About (next_of s t) (cell_of (current_of s t)) (current_of s t).cell
 unfolding action_of
@@ -173,48 +175,48 @@ module _ {s : State} (g : Runnable s) {t : ℕ} (h : t < s.threads) (l : positio
 
     takes : (a : Action) → About a c i.cell → blocked_of s.depth q a ≡ 0 → broken_of t (next_held s t) q (next_elsewhere s t) a ≡ 0 → Takes W t (acted lo r a) (result a)
     unfolding effect_of marks_of seen_of held_of blocked_of broken_of
-    takes (read n) e y z =
-        subst (Takes W t (acted lo r (read n)))
-        (with_same W t (ap (λ (x : ℤ). went lo (read n) (position_of s t + 1) r x x) (seen_by n e)) queue_there refl (sym same_table) (sym same_memory))
+    takes (Read n) e y z =
+        subst (Takes W t (acted lo r (Read n)))
+        (with_same W t (ap (λ (x : ℤ). went lo (Read n) (position_of s t + 1) r x x) (seen_by n e)) queue_there refl (sym same_table) (sym same_memory))
         (t_load (readable n e (load_free t (next_held s t) z)))
-    takes (store n x) e y z =
-        subst (Takes W t (acted lo r (store n x)))
-        (with_same W t (moved_on (store n x) (position_of s t + 1)) (pushed_on x e.1 (room_free s.depth q y)) (flag_set n e.0) (sym stored_table) (sym same_memory))
+    takes (Store n x) e y z =
+        subst (Takes W t (acted lo r (Store n x)))
+        (with_same W t (moved_on (Store n x) (position_of s t + 1)) (pushed_on x e.1 (room_free s.depth q y)) (flag_set n e.0) (sym stored_table) (sym same_memory))
         (t_store (rw e.0 (store_free t (next_held s t) z)))
-    takes fence e y z =
-        subst (Takes W t (acted lo r fence))
-        (with_same W t (moved_on fence (position_of s t + 1)) queue_there refl (sym same_table) (sym same_memory))
+    takes Fence e y z =
+        subst (Takes W t (acted lo r Fence))
+        (with_same W t (moved_on Fence (position_of s t + 1)) queue_there refl (sym same_table) (sym same_memory))
         (t_fence (queue_there ∙ waits_free q y))
-    takes (swap n old x) e y z =
-        subst (Takes W t (acted lo r (swap n old x)))
-        (with_same W t (ap (λ (k : ℕ). went lo (swap n old x) (position_of s t + 1) r (memory_of s k) (memory_of s k)) e) queue_there refl (sym same_table)
+    takes (Swap n old x) e y z =
+        subst (Takes W t (acted lo r (Swap n old x)))
+        (with_same W t (ap (λ (k : ℕ). went lo (Swap n old x) (position_of s t + 1) r (memory_of s k) (memory_of s k)) e) queue_there refl (sym same_table)
         (ap (λ (k : ℕ). upd (memory_map s) k (pick (eq_z (memory_of s k) old) x (memory_of s k))) e))
         (t_swap (queue_there ∙ waits_free q y) (rw e (store_free t (next_held s t) z)))
-    takes (acquire n mark) e y z =
+    takes (Acquire n mark) e y z =
         let f = acquire_free t (next_held s t) (next_elsewhere s t) z in
-        subst (Takes W t (acted lo r (acquire n mark)))
-        (with_same W t (moved_on (acquire n mark) (position_of s t + 1)) queue_there refl (ap (λ (k : ℕ). enter (table_map s) k (suc t) (eqb mark LOCAL)) e.0 ∙ ap (λ (o : ℕ). enter (table_map s) c o (eqb mark LOCAL)) (sym (add-one t))) (sym same_memory))
+        subst (Takes W t (acted lo r (Acquire n mark)))
+        (with_same W t (moved_on (Acquire n mark) (position_of s t + 1)) queue_there refl (ap (λ (k : ℕ). enter (table_map s) k (suc t) (eqb mark LOCAL)) e.0 ∙ ap (λ (o : ℕ). enter (table_map s) c o (eqb mark LOCAL)) (sym (add-one t))) (sym same_memory))
         (t_acquire (rw e.0 f.0) (nowhere n e.1 f.1))
-    takes (release n) e y z =
+    takes (Release n) e y z =
         let f = release_free t (next_held s t) q z in
-        subst (Takes W t (acted lo r (release n)))
-        (with_same W t (moved_on (release n) (position_of s t + 1)) queue_there refl (ap (λ (k : ℕ). enter (table_map s) k 0 false) e) (sym same_memory))
+        subst (Takes W t (acted lo r (Release n)))
+        (with_same W t (moved_on (Release n) (position_of s t + 1)) queue_there refl (ap (λ (k : ℕ). enter (table_map s) k 0 false) e) (sym same_memory))
         (t_release (rw e f.0) (queue_there ∙ f.1))
-    takes (silent n x) e y z =
-        subst (Takes W t (acted lo r (silent n x))) (with_same W t refl queue_there refl (sym same_table) (sym same_memory)) t_silent
-    takes end e y z = absurd (omega arith)
+    takes (Silent n x) e y z =
+        subst (Takes W t (acted lo r (Silent n x))) (with_same W t refl queue_there refl (sym same_table) (sym same_memory)) t_silent
+    takes End e y z = absurd (omega arith)
 
     -- what is planned at it goes by the flag after it
     pub plan_same : (a : Action) → About a c i.cell → (k : List ℕ) → plan (acted lo r a) (λ n. dirtied W t n (W.threads t).dirty) k ≡ plan_by a (is_dirty (mk a)) k
     unfolding marks_of
-    plan_same (read n) e k = refl
-    plan_same (store n x) e k = ap (λ (b : Bool). stored b k) (flag_set n e.0)
-    plan_same fence e k = refl
-    plan_same (swap n old x) e k = refl
-    plan_same (acquire n mark) e k = refl
-    plan_same (release n) e k = refl
-    plan_same (silent n x) e k = refl
-    plan_same end e k = refl
+    plan_same (Read n) e k = refl
+    plan_same (Store n x) e k = ap (λ (b : Bool). stored b k) (flag_set n e.0)
+    plan_same Fence e k = refl
+    plan_same (Swap n old x) e k = refl
+    plan_same (Acquire n mark) e k = refl
+    plan_same (Release n) e k = refl
+    plan_same (Silent n x) e k = refl
+    plan_same End e k = refl
 
     pub instruction_takes : (checked_of s (1 + t)).number ≡ 0 → Takes W t (program s.code s.counts lo) (view (checked_of s (1 + t)).state (upd logs t (noted (logs t) (position_of s t) (next_of s t) (checked_of s (1 + t)).value)))
     instruction_takes z =

@@ -13,7 +13,9 @@ use Rattle.reader.specs.State.{no_instruction, code_place, queue_of, position_of
 use Rattle.reader.specs.Queue.{pending}
 use Rattle.reader.specs.Rules.{pick}
 use Rattle.machine.specs.Integer.{eq_z}
-use Rattle.machine.specs.Action.{Action, read, store, fence, swap, acquire, release, silent, end, action_of, LOCAL}
+use Rattle.machine.specs.declared.action.Action.{Action}
+use Rattle.machine.specs.declared.action.Action.TheVariants.{Read, Store, Fence, Swap, Acquire, Release, Silent, End}
+use Rattle.machine.specs.Action.{action_of, LOCAL}
 use Rattle.discipline.specs.OneMemory.{reads}
 use Rattle.discipline.proofs.Maps.{upd}
 use Rattle.discipline.proofs.Abstract.{Act, stays, loads, stores, fences, swaps, acquires, releases, Table, Thread, Machine, Plain}
@@ -43,14 +45,14 @@ went l a next r x v = record { row = l.row; at = next; registers = upd l.registe
 
 -- an action of a thread whose instruction names register r; one at its end would be refused
 abbrev pub acted : Local → ℕ → Action → Act Local
-acted l r (read c) = loads c (λ v. went l (read c) (l.at + 1) r v v)
-acted l r (store c x) = stores c x (went l (store c x) (l.at + 1) r (l.registers r) (pos 0))
-acted l r fence = fences (went l fence (l.at + 1) r (l.registers r) (pos 0))
-acted l r (swap c old x) = swaps c (λ v. pick (eq_z v old) x v) (λ v. went l (swap c old x) (l.at + 1) r v v)
-acted l r (acquire c mark) = acquires c (eqb mark LOCAL) (went l (acquire c mark) (l.at + 1) r (l.registers r) (pos 0))
-acted l r (release c) = releases c (went l (release c) (l.at + 1) r (l.registers r) (pos 0))
-acted l r (silent n x) = stays (went l (silent n x) n r x (pos 0))
-acted l r end = stays (record { row = l.row; at = l.at; registers = l.registers; log = overrun l.log })
+acted l r (Read c) = loads c (λ v. went l (Read c) (l.at + 1) r v v)
+acted l r (Store c x) = stores c x (went l (Store c x) (l.at + 1) r (l.registers r) (pos 0))
+acted l r Fence = fences (went l Fence (l.at + 1) r (l.registers r) (pos 0))
+acted l r (Swap c old x) = swaps c (λ v. pick (eq_z v old) x v) (λ v. went l (Swap c old x) (l.at + 1) r v v)
+acted l r (Acquire c mark) = acquires c (eqb mark LOCAL) (went l (Acquire c mark) (l.at + 1) r (l.registers r) (pos 0))
+acted l r (Release c) = releases c (went l (Release c) (l.at + 1) r (l.registers r) (pos 0))
+acted l r (Silent n x) = stays (went l (Silent n x) n r x (pos 0))
+acted l r End = stays (record { row = l.row; at = l.at; registers = l.registers; log = overrun l.log })
 
 -- the program of every row
 module _ (code : List Instruction) (counts : List ℕ) where
@@ -58,7 +60,7 @@ module _ (code : List Instruction) (counts : List ℕ) where
   instruction_at l = get_or code (code_place l.row l.at) no_instruction
 
   abbrev pub action_at : Local → Action
-  action_at l = pick (ltb l.at (get_or counts l.row 0)) (action_of (instruction_at l) l.at (l.registers (instruction_at l).register)) end
+  action_at l = pick (ltb l.at (get_or counts l.row 0)) (action_of (instruction_at l) l.at (l.registers (instruction_at l).register)) End
 
   unfoldable pub program : Local → Act Local
   program l = acted l (instruction_at l).register (action_at l)

@@ -14,10 +14,14 @@ holds_of es (suc n) c = pick (eqb (get_or es n no_pending).cell c) true (holds_o
 abbrev pub holds : Queue → ℕ → Bool
 holds q c = holds_of q.entries q.count c
 
+-- whether a store to c pends with row u, which is not row t
+abbrev pub pends_with : List Queue → ℕ → ℕ → ℕ → Bool
+pends_with qs t c u = not (eqb u t) && holds (get_or qs u outside_queue) c
+
 -- whether a store to c pends with one of the first n rows, but for row t
 unfoldable pub elsewhere_of : List Queue → ℕ → ℕ → ℕ → Bool
 elsewhere_of qs zero t c = false
-elsewhere_of qs (suc n) t c = pick (not (eqb n t) && holds (get_or qs n outside_queue) c) true (elsewhere_of qs n t c)
+elsewhere_of qs (suc n) t c = pick (pends_with qs t c n) true (elsewhere_of qs n t c)
 
 -- rows that can be searched
 pub record Rows (qs : List Queue) (threads : ℕ) : Type 0 where

@@ -1,9 +1,9 @@
 pub mod Table
 pub mod Elsewhere
+pub mod Reason
 pub mod Rules
 pub mod Marks
 pub mod Step
-pub mod Decide
 pub mod Run
 pub mod Check
 pub mod Meaning

@@ -3,7 +3,9 @@
 use Rattle.std.specs.Prelude.{ℕ, ◌-◌, ◌≤◌, ◌<◌, true, false, ◌≡◌, List, [], ◌∷◌, leb, ℤ}
 use Rattle.reader.specs.declared.state.State.{State}
 use Rattle.reader.specs.State.{queue_of}
-use Rattle.machine.specs.Action.{Action, read, store, fence, swap, acquire, release, end, next_of}
+use Rattle.machine.specs.declared.action.Action.{Action}
+use Rattle.machine.specs.declared.action.Action.TheVariants.{Read, Store, Fence, Swap, Acquire, Release, End}
+use Rattle.machine.specs.Action.{next_of}
 use Rattle.machine.specs.Effect.{pends}
 use Rattle.discipline.specs.Table.{owned, owns, others, is_local, is_dirty}
 use Rattle.discipline.specs.Step.{next_held, next_elsewhere, checked_of}
@@ -12,27 +14,27 @@ use Rattle.discipline.specs.Step.{next_held, next_elsewhere, checked_of}
 module _ (s : State) (t : ℕ) where
   pub data Against : Action → ℕ → Type 0 where
     -- "the thread's program is at its end"
-    at_end : Against end 20
+    at_end : Against End 20
     -- "FENCE or COMPARE-SWAP with pending stores"
-    fence_waits : pends (queue_of s t) ≡ true → Against fence 21
-    swap_waits : {c : ℕ} {old x : ℤ} → pends (queue_of s t) ≡ true → Against (swap c old x) 21
+    fence_waits : pends (queue_of s t) ≡ true → Against Fence 21
+    swap_waits : {c : ℕ} {old x : ℤ} → pends (queue_of s t) ≡ true → Against (Swap c old x) 21
     -- "STORE with depth already reached"
-    buffer_full : {c : ℕ} {x : ℤ} → leb s.depth (queue_of s t).count ≡ true → Against (store c x) 22
+    buffer_full : {c : ℕ} {x : ℤ} → leb s.depth (queue_of s t).count ≡ true → Against (Store c x) 22
     -- "load of another's local cell"
-    load_local : {c : ℕ} → owns (next_held s t) t ≡ false → is_local (next_held s t) ≡ true → Against (read c) 30
+    load_local : {c : ℕ} → owns (next_held s t) t ≡ false → is_local (next_held s t) ≡ true → Against (Read c) 30
     -- "load of a shared cell not one's own, dirty flag set"
-    load_dirty : {c : ℕ} → owns (next_held s t) t ≡ false → is_local (next_held s t) ≡ false → is_dirty (next_held s t) ≡ true → Against (read c) 31
+    load_dirty : {c : ℕ} → owns (next_held s t) t ≡ false → is_local (next_held s t) ≡ false → is_dirty (next_held s t) ≡ true → Against (Read c) 31
     -- "store or COMPARE-SWAP to another's cell"
-    store_others : {c : ℕ} {x : ℤ} → others (next_held s t) t ≡ true → Against (store c x) 32
-    swap_others : {c : ℕ} {old x : ℤ} → others (next_held s t) t ≡ true → Against (swap c old x) 32
+    store_others : {c : ℕ} {x : ℤ} → others (next_held s t) t ≡ true → Against (Store c x) 32
+    swap_others : {c : ℕ} {old x : ℤ} → others (next_held s t) t ≡ true → Against (Swap c old x) 32
     -- "ACQUIRE of an owned cell, one's own too"
-    acquire_owned : {c mark : ℕ} → owned (next_held s t) ≡ true → Against (acquire c mark) 33
+    acquire_owned : {c mark : ℕ} → owned (next_held s t) ≡ true → Against (Acquire c mark) 33
     -- "ACQUIRE with a store to it pending elsewhere"
-    acquire_pending : {c mark : ℕ} → next_elsewhere s t ≡ true → Against (acquire c mark) 34
+    acquire_pending : {c mark : ℕ} → next_elsewhere s t ≡ true → Against (Acquire c mark) 34
     -- "RELEASE of a cell not one's own"
-    release_others : {c : ℕ} → owns (next_held s t) t ≡ false → Against (release c) 35
+    release_others : {c : ℕ} → owns (next_held s t) t ≡ false → Against (Release c) 35
     -- "RELEASE with pending stores"
-    release_waits : {c : ℕ} → pends (queue_of s t) ≡ true → Against (release c) 36
+    release_waits : {c : ℕ} → pends (queue_of s t) ≡ true → Against (Release c) 36
 
 -- the reasons against an item
 pub data Stops (s : State) (x : ℕ) : ℕ → Type 0 where

@@ -7,7 +7,9 @@ use Rattle.reader.specs.Limits.{THREADS}
 use Rattle.reader.specs.State.{queue_of, position_of}
 use Rattle.reader.specs.Rules.{pick}
 use Rattle.reader.specs.Case.{read_of}
-use Rattle.machine.specs.Action.{Action, read, store, fence, swap, acquire, release, silent, end, next_of}
+use Rattle.machine.specs.declared.action.Action.{Action}
+use Rattle.machine.specs.declared.action.Action.TheVariants.{Read, Store, Fence, Swap, Acquire, Release, Silent, End}
+use Rattle.machine.specs.Action.{next_of}
 use Rattle.machine.specs.Run.{Outcome, Ran, run_of, values_of}
 use Rattle.machine.specs.Plain.{plain_of}
 use Rattle.discipline.specs.Step.{checked_of}
@@ -26,14 +28,14 @@ times_of t (x ∷ xs) = pick (carries t x) 1 0 + times_of t xs
 
 -- "what a LOAD or COMPARE-SWAP read"
 abbrev pub reads : Action → Bool
-reads (read c) = true
-reads (store c x) = false
-reads fence = false
-reads (swap c old x) = true
-reads (acquire c mark) = false
-reads (release c) = false
-reads (silent n x) = false
-reads end = false
+reads (Read c) = true
+reads (Store c x) = false
+reads Fence = false
+reads (Swap c old x) = true
+reads (Acquire c mark) = false
+reads (Release c) = false
+reads (Silent n x) = false
+reads End = false
 
 -- items that a machine takes one after the other, from a state
 module _ (step : State → ℕ → Outcome) where

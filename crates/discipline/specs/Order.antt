@@ -6,7 +6,9 @@ use Rattle.std.specs.Prelude.{ℕ, zero, suc, ◌+◌, ◌-◌, Bool, true, fals
 use Rattle.reader.specs.declared.state.State.{State}
 use Rattle.reader.specs.Limits.{THREADS}
 use Rattle.reader.specs.Rules.{pick}
-use Rattle.machine.specs.Action.{Action, read, store, fence, swap, acquire, release, silent, end, next_of}
+use Rattle.machine.specs.declared.action.Action.{Action}
+use Rattle.machine.specs.declared.action.Action.TheVariants.{Read, Store, Fence, Swap, Acquire, Release, Silent, End}
+use Rattle.machine.specs.Action.{next_of}
 use Rattle.discipline.specs.Table.{is_dirty}
 use Rattle.discipline.specs.Step.{next_marks, checked_of}
 
@@ -44,14 +46,14 @@ drains (n ∷ k) = record { counts = k; steps = n }
 
 -- an action that is taken, with the flag after it
 abbrev pub plan_by : Action → Bool → List ℕ → Plan
-plan_by (read c) flag k = quiet (busy k) k
-plan_by (store c x) flag k = stored flag k
-plan_by fence flag k = quiet (busy k) k
-plan_by (swap c old x) flag k = quiet (busy k) k
-plan_by (acquire c mark) flag k = quiet (busy k) k
-plan_by (release c) flag k = quiet (busy k) k
-plan_by (silent n x) flag k = quiet (busy k) k
-plan_by end flag k = quiet (busy k) k
+plan_by (Read c) flag k = quiet (busy k) k
+plan_by (Store c x) flag k = stored flag k
+plan_by Fence flag k = quiet (busy k) k
+plan_by (Swap c old x) flag k = quiet (busy k) k
+plan_by (Acquire c mark) flag k = quiet (busy k) k
+plan_by (Release c) flag k = quiet (busy k) k
+plan_by (Silent n x) flag k = quiet (busy k) k
+plan_by End flag k = quiet (busy k) k
 
 -- the row of an item, and what is planned at it where the row's counts are k
 abbrev pub row_of : ℕ → ℕ

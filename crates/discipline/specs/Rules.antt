@@ -1,7 +1,8 @@
 -- The discipline: which rule an action breaks. "a smaller number before a larger one"
 use Rattle.std.specs.Prelude.{ℕ, Bool, ◌&&◌, not}
 use Rattle.reader.specs.declared.state.Queue.{Queue}
-use Rattle.machine.specs.Action.{Action, read, store, fence, swap, acquire, release, silent, end}
+use Rattle.machine.specs.declared.action.Action.{Action}
+use Rattle.machine.specs.declared.action.Action.TheVariants.{Read, Store, Fence, Swap, Acquire, Release, Silent, End}
 use Rattle.machine.specs.Effect.{guard, pends}
 use Rattle.discipline.specs.declared.table.Held.{Held}
 use Rattle.discipline.specs.Table.{owned, owns, others, is_local, is_dirty}
@@ -26,11 +27,11 @@ module _ (t : ℕ) (h : Held) where
 
   -- with buffer q; elsewhere says whether a store to the cell pends with another thread
   unfoldable pub broken_of : Queue → Bool → Action → ℕ
-  broken_of q elsewhere (read c) = load_breaks
-  broken_of q elsewhere (store c x) = store_breaks
-  broken_of q elsewhere fence = 0
-  broken_of q elsewhere (swap c old x) = store_breaks
-  broken_of q elsewhere (acquire c mark) = acquire_breaks elsewhere
-  broken_of q elsewhere (release c) = release_breaks q
-  broken_of q elsewhere (silent n x) = 0
-  broken_of q elsewhere end = 0
+  broken_of q elsewhere (Read c) = load_breaks
+  broken_of q elsewhere (Store c x) = store_breaks
+  broken_of q elsewhere Fence = 0
+  broken_of q elsewhere (Swap c old x) = store_breaks
+  broken_of q elsewhere (Acquire c mark) = acquire_breaks elsewhere
+  broken_of q elsewhere (Release c) = release_breaks q
+  broken_of q elsewhere (Silent n x) = 0
+  broken_of q elsewhere End = 0

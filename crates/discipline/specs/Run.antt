@@ -10,3 +10,8 @@ pub record Runnable (s : State) : Type 0 where
 
 abbrev pub Items : ℕ → List ℕ → Type 0
 Items threads items = (k : ℕ) → k < length items → item_fits threads (get_or items k 0) ≡ true
+
+-- an item that may be given to a state
+pub record IsItem (s : State) (item : ℕ) : Type 0 where
+  pub runnable : Runnable s
+  pub fits : item_fits s.threads item ≡ true

@@ -1,5 +1,5 @@
 -- The checked step: what the machine does, where neither the machine nor a rule holds it back; and then what the discipline does.
-use Rattle.std.specs.Prelude.{ℕ, ◌-◌, Bool, leb}
+use Rattle.std.specs.Prelude.{ℕ, ◌-◌, Bool, leb, eqb}
 use Rattle.reader.specs.declared.state.State.{State}
 use Rattle.reader.specs.State.{queue_of}
 use Rattle.reader.specs.Rules.{pick}
@@ -25,6 +25,10 @@ next_broken s t = broken_of t (next_held s t) (queue_of s t) (next_elsewhere s t
 
 abbrev pub next_marks : State → ℕ → Held
 next_marks s t = marks_of (next_held s t) t (next_of s t)
+
+-- the machine's number first
+abbrev pub judged_of : ℕ → ℕ → ℕ
+judged_of blocked broken = pick (eqb blocked 0) broken blocked
 
 -- "For each item 20 to 23 come before 30 and above"
 unfoldable pub checked_take : State → ℕ → Outcome

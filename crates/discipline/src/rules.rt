@@ -1,91 +1,86 @@
 // The rules, each one named test. An instruction is judged by them only where the machine does not hold it back.
 ghost use Rattle.std.specs.Prelude.{◌≡◌, ◌<◌};
 ghost use Rattle.reader.specs.Limits.{THREADS};
-ghost use Rattle.machine.specs.Action.{action_of};
+ghost use Rattle.reader.specs.State.{queue_of};
+ghost use Rattle.machine.specs.Hurdle.{test_of};
+ghost use Rattle.discipline.specs.Elsewhere.{Rows, elsewhere_of};
+ghost use Rattle.discipline.specs.Reason.{breach_number};
 ghost use Rattle.discipline.specs.Rules.{load_breaks, store_breaks, acquire_breaks, release_breaks, broken_of};
 
-use crate::table;
+use crate::breach::Breach;
+use crate::elsewhere;
 use crate::table::Held;
-use machine::effect::Seen;
-use reader::state::{Instruction, Queue};
+use machine::action::Action;
+use machine::step::Next;
+use reader::state::{Queue, State};
 
-// 30: load of another's local cell. 31: load of a shared cell not one's own, dirty flag set.
+// An own cell, always; another only if it is shared and the flag is clear.
 #[tactic(auto, unfolding(crate::specs::Rules::load_breaks, machine::specs::Effect::guard))]
-fn load(t: usize, h: Held) -> u32
-    requires { t < THREADS }
-    ensures { result ≡ load_breaks t h }
+fn load(t: usize, h: Held) -> Result<(), Breach>
+    ensures { test_of breach_number result ≡ load_breaks t h }
 {
-    if table::is_own(h, t) {
-        return 0;
+    if h.is_own(t) {
+        return Ok(());
     }
-    if h.sharing == 0 {
-        return 30;
+    if h.is_local() {
+        return Err(Breach::LoadOfLocal);
     }
-    if h.dirty != 0 {
-        return 31;
+    if h.is_dirty() {
+        return Err(Breach::LoadWhileDirty);
     }
-    0
+    Ok(())
 }
 
-// 32: store or COMPARE-SWAP to another's cell.
+// A cell that no other thread owns.
 #[tactic(auto, unfolding(crate::specs::Rules::store_breaks, machine::specs::Effect::guard))]
-fn store(t: usize, h: Held) -> u32
-    requires { t < THREADS }
-    ensures { result ≡ store_breaks t h }
+fn store(t: usize, h: Held) -> Result<(), Breach>
+    ensures { test_of breach_number result ≡ store_breaks t h }
 {
-    if table::is_others(h, t) {
-        return 32;
+    if h.is_others(t) {
+        return Err(Breach::StoreToOthers);
     }
-    0
+    Ok(())
 }
 
-// 33: ACQUIRE of an owned cell, one's own too. 34: ACQUIRE with a store to it pending elsewhere.
+// A cell without owner, to which no store pends elsewhere.
 #[tactic(auto, unfolding(crate::specs::Rules::acquire_breaks, machine::specs::Effect::guard))]
-fn acquire(t: usize, h: Held, elsewhere: bool) -> u32
-    ensures { result ≡ acquire_breaks t h elsewhere }
+fn acquire(t: usize, h: Held, elsewhere: bool) -> Result<(), Breach>
+    ensures { test_of breach_number result ≡ acquire_breaks t h elsewhere }
 {
-    if h.owner != 0 {
-        return 33;
+    if h.is_owned() {
+        return Err(Breach::AcquireOfOwned);
     }
     if elsewhere {
-        return 34;
+        return Err(Breach::AcquireWhilePending);
     }
-    0
+    Ok(())
 }
 
-// 35: RELEASE of a cell not one's own. 36: RELEASE with pending stores.
+// An own cell, with the own buffer empty.
 #[tactic(auto, unfolding(crate::specs::Rules::release_breaks, machine::specs::Effect::guard))]
-fn release(t: usize, h: Held, q: Queue) -> u32
-    requires { t < THREADS }
-    ensures { result ≡ release_breaks t h q }
+fn release(t: usize, h: Held, q: &Queue) -> Result<(), Breach>
+    ensures { test_of breach_number result ≡ release_breaks t h q.now }
 {
-    if !table::is_own(h, t) {
-        return 35;
+    if !h.is_own(t) {
+        return Err(Breach::ReleaseOfOthers);
     }
     if q.count != 0 {
-        return 36;
+        return Err(Breach::ReleaseWhilePending);
     }
-    0
+    Ok(())
 }
 
-// The number of the rule that an instruction of row t breaks, or 0.
-#[tactic(auto, unfolding(crate::specs::Rules::broken_of, machine::specs::Action::action_of))]
-pub fn broken(t: usize, h: Held, q: Queue, elsewhere: bool, i: Instruction, v: Seen) -> u32
-    requires { t < THREADS }
-    ensures { result ≡ broken_of t h q elsewhere (action_of i v.at v.content) }
+// Which rule the next instruction of row t breaks, of whose cell so much is held. The other buffers are searched for an ACQUIRE alone.
+#[tactic(auto, unfolding(crate::specs::Rules::broken_of))]
+pub fn allowed(s: &State, t: usize, h: Held, next: Next) -> Result<(), Breach>
+    requires { Rows s.now.queues s.now.threads × (t < THREADS) }
+    ensures { test_of breach_number result ≡ broken_of t h (queue_of s.now t) (elsewhere_of s.now.queues s.now.threads t next.instruction.cell) next.action }
 {
-    let operation = i.operation;
-    match operation {
-        1 => load(t, h),
-        2 => store(t, h),
-        3 => store(t, h),
-        4 => 0,
-        5 => store(t, h),
-        6 => acquire(t, h, elsewhere),
-        7 => acquire(t, h, elsewhere),
-        8 => release(t, h, q),
-        9 => 0,
-        10 => 0,
-        _ => 0,
+    match next.action {
+        Action::Read { .. } => load(t, h),
+        Action::Store { .. } | Action::Swap { .. } => store(t, h),
+        Action::Acquire { .. } => acquire(t, h, elsewhere::is_elsewhere(s, t, u32::from(next.instruction.cell))),
+        Action::Release { .. } => release(t, h, &s.queues[t]),
+        Action::Fence | Action::Silent { .. } | Action::End => Ok(()),
     }
 }

@@ -14,7 +14,9 @@ use Rattle.reader.proofs.Tests.{false_true, within_true}
 use Rattle.reader.proofs.Instructions.{InstructionIn, instruction_in}
 use Rattle.machine.specs.declared.effect.Seen.{Seen}
 use Rattle.machine.specs.declared.effect.Effect.{Effect}
-use Rattle.machine.specs.Action.{Action, read, store, fence, swap, acquire, release, silent, end, action_of, current_of, next_of}
+use Rattle.machine.specs.declared.action.Action.{Action}
+use Rattle.machine.specs.declared.action.Action.TheVariants.{Read, Store, Fence, Swap, Acquire, Release, Silent, End}
+use Rattle.machine.specs.Action.{action_of, current_of, next_of}
 use Rattle.machine.specs.Effect.{cell_of, seen_of, guard, blocked_of, effect_of, took_of, pushes}
 use Rattle.machine.specs.Look.{Lookable}
 use Rattle.machine.specs.Run.{Outcome, refused_of, taken_of, unless}
@@ -104,21 +106,21 @@ by_kind threads k P drains takes x f = go (leb 17 x) refl
 -- a store is the only action that puts something into the buffer
 pub room : (v : Seen) (depth : ℕ) (q : Queue) (a : Action) → blocked_of depth q a ≡ 0 → pushes (effect_of v q a) ≡ true → q.count < depth
 unfolding blocked_of effect_of guard
-room v depth q (read c) z b = absurd (false_true b)
-room v depth q (store c x) z b = go (leb depth q.count) refl z
+room v depth q (Read c) z b = absurd (false_true b)
+room v depth q (Store c x) z b = go (leb depth q.count) refl z
   where
     go : (t : Bool) → leb depth q.count ≡ t → guard t 22 0 ≡ 0 → q.count < depth
     go true e z = absurd (omega arith)
     go false e z = leb-false _ _ e
-room v depth q fence z b = absurd (false_true b)
-room v depth q (swap c old x) z b = absurd (false_true b)
-room v depth q (acquire c mark) z b = absurd (false_true b)
-room v depth q (release c) z b = absurd (false_true b)
-room v depth q (silent n x) z b = absurd (false_true b)
-room v depth q end z b = absurd (false_true b)
+room v depth q Fence z b = absurd (false_true b)
+room v depth q (Swap c old x) z b = absurd (false_true b)
+room v depth q (Acquire c mark) z b = absurd (false_true b)
+room v depth q (Release c) z b = absurd (false_true b)
+room v depth q (Silent n x) z b = absurd (false_true b)
+room v depth q End z b = absurd (false_true b)
 
 -- a program at its end
-pub next_end : (s : State) (t : ℕ) → count_of s t ≤ position_of s t → next_of s t ≡ end
+pub next_end : (s : State) (t : ℕ) → count_of s t ≤ position_of s t → next_of s t ≡ End
 unfolding next_of
 next_end s t h = rw (le-ltb _ _ h)
 
@@ -148,10 +150,6 @@ unfolding take_step blocked_of unless
 ended_step e = rw (e.hurdle, e.ended) refl
 
 module _ {s : State} {t : ℕ} {n : Next} (x : IsNext s t n) where
-  -- it is the action of a known instruction
-  pub found_action : action_of (current_of s t) (position_of s t) (seen_of s t (current_of s t)).content ≡ next_of s t
-  found_action = next_action s t x.goes
-
   pub held_step : (h : Hurdle) → number_of h ≡ blocked_of s.depth (queue_of s t) n.action → refused_of s (number_of h) ≡ take_step s t
   unfolding take_step
   held_step h e =

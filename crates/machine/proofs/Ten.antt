@@ -9,7 +9,9 @@ use Rattle.machine.specs.declared.effect.Seen.{Seen}
 use Rattle.machine.specs.Integer.{eq_z}
 use Rattle.machine.specs.Effect.{effect_of, pushes}
 use Rattle.machine.specs.Plain.{ended_of}
-use Rattle.machine.specs.Action.{Action, action_of, end}
+use Rattle.machine.specs.declared.action.Action.{Action}
+use Rattle.machine.specs.declared.action.Action.TheVariants.{End}
+use Rattle.machine.specs.Action.{action_of}
 
 -- what a match leaves to its last arm
 pub record NoneOfTen (n : ℕ) : Type 0 where
@@ -24,7 +26,7 @@ pub record NoneOfTen (n : ℕ) : Type 0 where
   pub n9 : n ≡ 9 → ⊥
   pub n10 : n ≡ 10 → ⊥
 
-past : (a1 a2 a3 a4 a5 a6 a7 a8 a9 a10 : Action) (n : ℕ) → NoneOfTen n → get_or (end ∷ a1 ∷ a2 ∷ a3 ∷ a4 ∷ a5 ∷ a6 ∷ a7 ∷ a8 ∷ a9 ∷ a10 ∷ []) n end ≡ end
+past : (a1 a2 a3 a4 a5 a6 a7 a8 a9 a10 : Action) (n : ℕ) → NoneOfTen n → get_or (End ∷ a1 ∷ a2 ∷ a3 ∷ a4 ∷ a5 ∷ a6 ∷ a7 ∷ a8 ∷ a9 ∷ a10 ∷ []) n End ≡ End
 past a1 a2 a3 a4 a5 a6 a7 a8 a9 a10 zero k = refl
 past a1 a2 a3 a4 a5 a6 a7 a8 a9 a10 (suc zero) k = absurd (k.n1 refl)
 past a1 a2 a3 a4 a5 a6 a7 a8 a9 a10 (suc (suc zero)) k = absurd (k.n2 refl)
@@ -38,12 +40,12 @@ past a1 a2 a3 a4 a5 a6 a7 a8 a9 a10 (suc (suc (suc (suc (suc (suc (suc (suc (suc
 past a1 a2 a3 a4 a5 a6 a7 a8 a9 a10 (suc (suc (suc (suc (suc (suc (suc (suc (suc (suc zero)))))))))) k = absurd (k.n10 refl)
 past a1 a2 a3 a4 a5 a6 a7 a8 a9 a10 (suc (suc (suc (suc (suc (suc (suc (suc (suc (suc (suc n))))))))))) k = refl
 
-pub unknown_end : (i : Instruction) (at : ℕ) (x : ℤ) → NoneOfTen i.operation → action_of i at x ≡ end
+pub unknown_end : (i : Instruction) (at : ℕ) (x : ℤ) → NoneOfTen i.operation → action_of i at x ≡ End
 unfolding action_of
 unknown_end i at x k = past _ _ _ _ _ _ _ _ _ _ i.operation k
 
 -- what holds of each of the ten numbers with its action holds of any operation from 1 to 10
-pub ten : (P : ℕ → Action → Type 0) (a1 a2 a3 a4 a5 a6 a7 a8 a9 a10 : Action) → P 1 a1 → P 2 a2 → P 3 a3 → P 4 a4 → P 5 a5 → P 6 a6 → P 7 a7 → P 8 a8 → P 9 a9 → P 10 a10 → (n : ℕ) → 1 ≤ n → n ≤ 10 → P n (get_or (end ∷ a1 ∷ a2 ∷ a3 ∷ a4 ∷ a5 ∷ a6 ∷ a7 ∷ a8 ∷ a9 ∷ a10 ∷ []) n end)
+pub ten : (P : ℕ → Action → Type 0) (a1 a2 a3 a4 a5 a6 a7 a8 a9 a10 : Action) → P 1 a1 → P 2 a2 → P 3 a3 → P 4 a4 → P 5 a5 → P 6 a6 → P 7 a7 → P 8 a8 → P 9 a9 → P 10 a10 → (n : ℕ) → 1 ≤ n → n ≤ 10 → P n (get_or (End ∷ a1 ∷ a2 ∷ a3 ∷ a4 ∷ a5 ∷ a6 ∷ a7 ∷ a8 ∷ a9 ∷ a10 ∷ []) n End)
 ten P a1 a2 a3 a4 a5 a6 a7 a8 a9 a10 p1 p2 p3 p4 p5 p6 p7 p8 p9 p10 zero l h = absurd (omega arith)
 ten P a1 a2 a3 a4 a5 a6 a7 a8 a9 a10 p1 p2 p3 p4 p5 p6 p7 p8 p9 p10 (suc zero) l h = p1
 ten P a1 a2 a3 a4 a5 a6 a7 a8 a9 a10 p1 p2 p3 p4 p5 p6 p7 p8 p9 p10 (suc (suc zero)) l h = p2

@@ -5,8 +5,8 @@ use Rattle.reader.specs.declared.state.Instruction.{Instruction}
 use Rattle.reader.specs.declared.state.State.{State}
 use Rattle.reader.specs.State.{position_of, count_of, instruction_of, register_of}
 use Rattle.reader.specs.Rules.{pick}
-pub use Rattle.machine.specs.declared.action.Action.{Action}
-pub use Rattle.machine.specs.declared.action.Action.TheVariants.{Read as read, Store as store, Fence as fence, Swap as swap, Acquire as acquire, Release as release, Silent as silent, End as end}
+use Rattle.machine.specs.declared.action.Action.{Action}
+use Rattle.machine.specs.declared.action.Action.TheVariants.{Read, Store, Fence, Swap, Acquire, Release, Silent, End}
 use Rattle.machine.specs.Integer.{eq_z, sum_of}
 
 -- "(1 shared, 0 local)"
@@ -20,23 +20,23 @@ LOCAL = 0
 unfoldable pub action_of : Instruction → ℕ → ℤ → Action
 action_of i at x =
     slice_index_or
-    (end
-    ∷ read i.cell
-    ∷ store i.cell i.value
-    ∷ store i.cell x
-    ∷ fence
-    ∷ swap i.cell x i.value
-    ∷ acquire i.cell LOCAL
-    ∷ acquire i.cell SHARED
-    ∷ release i.cell
-    ∷ silent (pick (eq_z x i.value) i.cell (at + 1)) x
-    ∷ silent (at + 1) (sum_of x i.value)
+    (End
+    ∷ Read i.cell
+    ∷ Store i.cell i.value
+    ∷ Store i.cell x
+    ∷ Fence
+    ∷ Swap i.cell x i.value
+    ∷ Acquire i.cell LOCAL
+    ∷ Acquire i.cell SHARED
+    ∷ Release i.cell
+    ∷ Silent (pick (eq_z x i.value) i.cell (at + 1)) x
+    ∷ Silent (at + 1) (sum_of x i.value)
     ∷ [])
-    i.operation end
+    i.operation End
 
 -- the instruction that row t is at, and what it is
 abbrev pub current_of : State → ℕ → Instruction
 current_of s t = instruction_of s t (position_of s t)
 
 unfoldable pub next_of : State → ℕ → Action
-next_of s t = pick (nat_lt (position_of s t) (count_of s t)) (action_of (current_of s t) (position_of s t) (register_of s t (current_of s t).register)) end
+next_of s t = pick (nat_lt (position_of s t) (count_of s t)) (action_of (current_of s t) (position_of s t) (register_of s t (current_of s t).register)) End

@@ -9,7 +9,8 @@ use Rattle.machine.specs.declared.effect.Seen.{Seen}
 use Rattle.machine.specs.declared.effect.Effect.{Effect}
 use Rattle.machine.specs.Integer.{eq_z}
 use Rattle.machine.specs.Buffer.{forwarded, after_of}
-use Rattle.machine.specs.Action.{Action, read, store, fence, swap, acquire, release, silent, end}
+use Rattle.machine.specs.declared.action.Action.{Action}
+use Rattle.machine.specs.declared.action.Action.TheVariants.{Read, Store, Fence, Swap, Acquire, Release, Silent, End}
 
 -- the cell that an instruction is about; a BRANCH has its target in that place
 abbrev pub cell_of : Instruction → ℕ
@@ -29,14 +30,14 @@ pends q = not (q.count == 0)
 
 -- "the thread's program is at its end"; "FENCE or COMPARE-SWAP with pending stores"; "STORE with depth already reached"
 unfoldable pub blocked_of : ℕ → Queue → Action → ℕ
-blocked_of depth q (read c) = 0
-blocked_of depth q (store c x) = guard (nat_le depth q.count) 22 0
-blocked_of depth q fence = guard (pends q) 21 0
-blocked_of depth q (swap c old x) = guard (pends q) 21 0
-blocked_of depth q (acquire c mark) = 0
-blocked_of depth q (release c) = 0
-blocked_of depth q (silent n x) = 0
-blocked_of depth q end = 20
+blocked_of depth q (Read c) = 0
+blocked_of depth q (Store c x) = guard (nat_le depth q.count) 22 0
+blocked_of depth q Fence = guard (pends q) 21 0
+blocked_of depth q (Swap c old x) = guard (pends q) 21 0
+blocked_of depth q (Acquire c mark) = 0
+blocked_of depth q (Release c) = 0
+blocked_of depth q (Silent n x) = 0
+blocked_of depth q End = 20
 
 -- whether an effect puts something into the buffer, and what
 abbrev pub pushes : Effect → Bool
@@ -56,18 +57,18 @@ module _ (v : Seen) where
 
   unfoldable pub effect_of : Queue → Action → Effect
   -- "LOAD puts into the register the newest pending store to that cell in the thread's own buffer, or else the memory's value."
-  effect_of q (read c) = reads_of (forwarded q c v.word) v.word
+  effect_of q (Read c) = reads_of (forwarded q c v.word) v.word
   -- "STORE appends to the own buffer."
-  effect_of q (store c x) = record { next = v.at + 1; value = pos 0; content = v.content; word = v.word; pushed = Some x }
+  effect_of q (Store c x) = record { next = v.at + 1; value = pos 0; content = v.content; word = v.word; pushed = Some x }
   -- "FENCE, with the own buffer empty, changes no value."
-  effect_of q fence = quiet_of
+  effect_of q Fence = quiet_of
   -- "COMPARE-SWAP, with the own buffer empty, reads memory; if that equals the register's old content, the value is stored straight to memory;
   -- the register then gets what was read, either way."
-  effect_of q (swap c old x) = reads_of v.word (pick (eq_z v.word old) x v.word)
-  effect_of q (acquire c mark) = quiet_of
-  effect_of q (release c) = quiet_of
-  effect_of q (silent n x) = record { next = n; value = pos 0; content = x; word = v.word; pushed = None }
-  effect_of q end = quiet_of
+  effect_of q (Swap c old x) = reads_of v.word (pick (eq_z v.word old) x v.word)
+  effect_of q (Acquire c mark) = quiet_of
+  effect_of q (Release c) = quiet_of
+  effect_of q (Silent n x) = record { next = n; value = pos 0; content = x; word = v.word; pushed = None }
+  effect_of q End = quiet_of
 
 -- the state after instruction i of row t with an effect
 unfoldable pub took_of : State → ℕ → Instruction → Effect → State

@@ -5,7 +5,9 @@ use Rattle.reader.specs.State.{no_queue}
 use Rattle.reader.specs.Range.{InRange}
 use Rattle.reader.specs.Rules.{pick}
 use Rattle.machine.specs.declared.effect.Effect.{Effect}
-use Rattle.machine.specs.Action.{Action, read, store, fence, swap, acquire, release, silent, end, current_of, next_of}
+use Rattle.machine.specs.declared.action.Action.{Action}
+use Rattle.machine.specs.declared.action.Action.TheVariants.{Read, Store, Fence, Swap, Acquire, Release, Silent, End}
+use Rattle.machine.specs.Action.{current_of, next_of}
 use Rattle.machine.specs.Effect.{pushes, pushed_value, seen_of, effect_of, took_of}
 use Rattle.machine.specs.Run.{Outcome, taken_of, unless}
 
@@ -15,14 +17,14 @@ at_once e = record { next = e.next; value = e.value; content = e.content; word =
 
 -- "and FENCE, ACQUIRE and RELEASE only advance": nothing is held back but at the end of a program
 unfoldable pub ended_of : Action → ℕ
-ended_of (read c) = 0
-ended_of (store c x) = 0
-ended_of fence = 0
-ended_of (swap c old x) = 0
-ended_of (acquire c mark) = 0
-ended_of (release c) = 0
-ended_of (silent n x) = 0
-ended_of end = 20
+ended_of (Read c) = 0
+ended_of (Store c x) = 0
+ended_of Fence = 0
+ended_of (Swap c old x) = 0
+ended_of (Acquire c mark) = 0
+ended_of (Release c) = 0
+ended_of (Silent n x) = 0
+ended_of End = 20
 
 -- what the next instruction of row t does: it finds no pending store
 abbrev pub plain_effect : State → ℕ → Effect

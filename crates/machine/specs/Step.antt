@@ -9,7 +9,8 @@ use Rattle.machine.specs.declared.effect.Effect.{Effect}
 use Rattle.machine.specs.declared.hurdle.Hurdle.{Hurdle}
 use Rattle.machine.specs.declared.hurdle.Hurdle.TheVariants.{AtEnd}
 use Rattle.machine.specs.declared.step.Next.{Next}
-use Rattle.machine.specs.Action.{end, current_of, next_of}
+use Rattle.machine.specs.declared.action.Action.TheVariants.{End}
+use Rattle.machine.specs.Action.{current_of, next_of}
 use Rattle.machine.specs.Effect.{seen_of, guard, blocked_of, effect_of, took_of}
 use Rattle.machine.specs.Run.{Outcome, taken_of, unless}
 
@@ -42,7 +43,7 @@ pub record IsNext (s : State) (t : ℕ) (n : Next) : Type 0 where
 
 pub record IsEnded (s : State) (t : ℕ) (h : Hurdle) : Type 0 where
   pub hurdle : h ≡ AtEnd
-  pub ended : next_of s t ≡ end
+  pub ended : next_of s t ≡ End
 
 -- row t may go on
 pub record Ready (s : State) (t : ℕ) (n : Next) : Type 0 where

@@ -3,7 +3,6 @@ ghost use Rattle.std.specs.Prelude.{◌≡◌, ◌<◌, true, IfOk, IfErr};
 ghost use Rattle.reader.specs.Range.{InRange};
 ghost use Rattle.reader.specs.Rules.{item_fits};
 ghost use Rattle.machine.specs.declared.hurdle.Hurdle.TheVariants.{AtEnd};
-ghost use Rattle.machine.specs.Action.{end};
 ghost use Rattle.machine.specs.Hurdle.{number_of, outcome_of};
 ghost use Rattle.machine.specs.Run.{taken_of};
 ghost use Rattle.machine.specs.Step.{IsNext, IsEnded, Ready, take_step, drain_step, step_of};

@@ -15,7 +15,9 @@ use Rattle.reader.specs.State.{no_pending, outside_queue, queue_of, position_of,
 use Rattle.reader.specs.Drain.{drained_of}
 use Rattle.reader.specs.Rules.{pick, item_fits}
 use Rattle.reader.specs.Range.{InRange}
-use Rattle.machine.specs.Action.{Action, read, store, fence, swap, acquire, release, silent, end, current_of, next_of}
+use Rattle.machine.specs.declared.action.Action.{Action}
+use Rattle.machine.specs.declared.action.Action.TheVariants.{Read, Store, Fence, Swap, Acquire, Release, Silent, End}
+use Rattle.machine.specs.Action.{current_of, next_of}
 use Rattle.machine.specs.Effect.{guard, blocked_of}
 use Rattle.machine.specs.Run.{taken_of, unless}
 use Rattle.machine.specs.Step.{drain_step}
@@ -49,25 +51,25 @@ elsewhere_alike qs rs (suc n) t c h = rw (h n (omega arith), elsewhere_alike qs 
 -- machine and rules look at how many stores pend in the own buffer, and at nothing else of it
 blocked_alike : (depth : ℕ) (q r : Queue) (a : Action) → r.count ≡ q.count → blocked_of depth r a ≡ blocked_of depth q a
 unfolding blocked_of
-blocked_alike depth q r (read c) e = refl
-blocked_alike depth q r (store c x) e = rw e
-blocked_alike depth q r fence e = rw e
-blocked_alike depth q r (swap c old x) e = rw e
-blocked_alike depth q r (acquire c mark) e = refl
-blocked_alike depth q r (release c) e = refl
-blocked_alike depth q r (silent n x) e = refl
-blocked_alike depth q r end e = refl
+blocked_alike depth q r (Read c) e = refl
+blocked_alike depth q r (Store c x) e = rw e
+blocked_alike depth q r Fence e = rw e
+blocked_alike depth q r (Swap c old x) e = rw e
+blocked_alike depth q r (Acquire c mark) e = refl
+blocked_alike depth q r (Release c) e = refl
+blocked_alike depth q r (Silent n x) e = refl
+blocked_alike depth q r End e = refl
 
 broken_alike : (t : ℕ) (h : Held) (q r : Queue) (b : Bool) (a : Action) → r.count ≡ q.count → broken_of t h r b a ≡ broken_of t h q b a
 unfolding broken_of release_breaks
-broken_alike t h q r b (read c) e = refl
-broken_alike t h q r b (store c x) e = refl
-broken_alike t h q r b fence e = refl
-broken_alike t h q r b (swap c old x) e = refl
-broken_alike t h q r b (acquire c mark) e = refl
-broken_alike t h q r b (release c) e = rw e
-broken_alike t h q r b (silent n x) e = refl
-broken_alike t h q r b end e = refl
+broken_alike t h q r b (Read c) e = refl
+broken_alike t h q r b (Store c x) e = refl
+broken_alike t h q r b Fence e = refl
+broken_alike t h q r b (Swap c old x) e = refl
+broken_alike t h q r b (Acquire c mark) e = refl
+broken_alike t h q r b (Release c) e = rw e
+broken_alike t h q r b (Silent n x) e = refl
+broken_alike t h q r b End e = refl
 
 module _ {s m : State} (a : Alike s m) (g : InRange s) {t : ℕ} (h : t < s.threads) where
   -- a program that goes on

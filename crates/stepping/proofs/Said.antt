@@ -9,7 +9,7 @@ use Rattle.reader.specs.declared.state.State.{State}
 use Rattle.reader.specs.Rules.{item_fits}
 use Rattle.reader.specs.Range.{InRange}
 use Rattle.reader.proofs.Tests.{false_true}
-use Rattle.machine.specs.Action.{Action}
+use Rattle.machine.specs.declared.action.Action.{Action}
 use Rattle.discipline.specs.Check.{answer, thread_of}
 use Rattle.discipline.specs.Meaning.{Against, at_end, fence_waits, swap_waits, buffer_full, load_local, load_dirty, store_others, swap_others, acquire_owned, acquire_pending, release_others, release_waits, Stops, stops_take, stops_drain}
 use Rattle.discipline.specs.Step.{checked_of}

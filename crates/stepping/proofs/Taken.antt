@@ -10,7 +10,9 @@ use Rattle.reader.specs.State.{position_of, count_of, register_of}
 use Rattle.reader.specs.Rules.{pick, item_fits}
 use Rattle.machine.specs.declared.effect.Seen.{Seen}
 use Rattle.reader.specs.declared.state.Queue.{Queue}
-use Rattle.machine.specs.Action.{Action, read, store, fence, swap, acquire, release, silent, end, current_of, next_of}
+use Rattle.machine.specs.declared.action.Action.{Action}
+use Rattle.machine.specs.declared.action.Action.TheVariants.{Read, Store, Fence, Swap, Acquire, Release, Silent, End}
+use Rattle.machine.specs.Action.{current_of, next_of}
 use Rattle.machine.specs.Effect.{effect_of, took_of}
 use Rattle.machine.specs.Step.{next_effect}
 use Rattle.machine.proofs.Take.{current_in, row_below, by_kind}
@@ -27,14 +29,14 @@ use Rattle.machine.specs.Run.{Outcome}
 -- what the register of an instruction holds once it is taken, where it reads: the value
 shown_effect : (v : Seen) (q : Queue) (a : Action) → pick (reads a) (effect_of v q a).content (pos 0) ≡ (effect_of v q a).value
 unfolding effect_of
-shown_effect v q (read c) = refl
-shown_effect v q (store c x) = refl
-shown_effect v q fence = refl
-shown_effect v q (swap c old x) = refl
-shown_effect v q (acquire c mark) = refl
-shown_effect v q (release c) = refl
-shown_effect v q (silent n x) = refl
-shown_effect v q end = refl
+shown_effect v q (Read c) = refl
+shown_effect v q (Store c x) = refl
+shown_effect v q Fence = refl
+shown_effect v q (Swap c old x) = refl
+shown_effect v q (Acquire c mark) = refl
+shown_effect v q (Release c) = refl
+shown_effect v q (Silent n x) = refl
+shown_effect v q End = refl
 
 shown_took : {s : State} (g : Runnable s) {t : ℕ} (h : t < s.threads) (l : position_of s t < count_of s t) →
     pick (reads (next_of s t)) (register_of (holding_of (took_of s t (current_of s t) (next_effect s t)) t (current_of s t) (next_marks s t)) t (current_of s t).register) (pos 0) ≡ (next_effect s t).value

@@ -1,21 +1,22 @@
--- By what the last row adds to the search.
-use Rattle.std.proofs.Common.{◌≡◌, false, sym, ◌∙◌, arith}
-use Rattle.discipline.specs.Elsewhere.{elsewhere_of}
-use Rattle.discipline.proofs.Searches.{own_pass, other_hit, other_pass}
+use Rattle.std.proofs.Common.{sym, ◌∙◌}
+use Rattle.discipline.proofs.Searches.{none_yet, none_more, found_one, own_pends, other_pends}
 use Rattle.discipline.proofs.elsewhere.is_elsewhere.Goals as goal
+use Rattle.discipline.proofs.elsewhere.is_elsewhere.Goals.{else-u-t-via-then-u-t+else-is_pending, else-u-t-via-else-u-t}
+
+pub loop-u-init : goal.loop-u-init
+loop-u-init c = none_yet c.args.s.now.queues c.args.t c.args.cell
 
 pub returns-then-is_pending : goal.returns-then-is_pending
-returns-then-is_pending c = sym (c.loop-n.invariant.1 ∙ other_hit c.args.queues c.loop-n.n c.args.t c.args.cell (omega arith) (λ e. omega arith) (sym c.is_pending.ensures ∙ c.if-is_pending.true))
+returns-then-is_pending c =
+    let qs = c.args.s.now.queues in
+    let p = other_pends qs c.args.t c.args.cell c.loop-u.u c.if-u-t.true (sym c.is_pending.ensures ∙ c.if-is_pending.true) in
+    sym (found_one qs c.args.t c.args.cell c.args.s.now.threads c.loop-u.u c.loop-u-test.true p)
 
-pub loop-n-preserved-else-is_pending : goal.loop-n-preserved-else-is_pending
-loop-n-preserved-else-is_pending c = (omega arith, c.loop-n.invariant.1 ∙ other_pass c.args.queues c.loop-n.n c.args.t c.args.cell (omega arith) (λ e. omega arith) (sym c.is_pending.ensures ∙ c.if-is_pending.false))
-
-pub loop-n-preserved : goal.loop-n-preserved
-loop-n-preserved c = (omega arith, c.loop-n.invariant.1 ∙ own_pass c.args.queues c.loop-n.n c.args.t c.args.cell (omega arith) (omega arith))
-
-pub returns : goal.returns
-unfolding elsewhere_of
-returns c =
-    let e : c.loop-n.n ≡ 0 = omega arith in
-    let k : elsewhere_of c.args.queues c.loop-n.n c.args.t c.args.cell ≡ false = rw e in
-    sym (c.loop-n.invariant.1 ∙ k)
+pub loop-u-preserved : goal.loop-u-preserved
+loop-u-preserved c =
+    let qs = c.args.s.now.queues in
+    none_more qs c.args.t c.args.cell c.loop-u.u c.loop-u.invariant
+    (elim c.else-u-t.branch [
+      else-u-t-via-then-u-t+else-is_pending w ↦ other_pends qs c.args.t c.args.cell c.loop-u.u w.if-u-t.true (sym w.is_pending.ensures ∙ w.if-is_pending.false)
+    | else-u-t-via-else-u-t w ↦ own_pends qs c.args.t c.args.cell c.loop-u.u w.if-u-t.false
+    ])

@@ -1,10 +1,7 @@
--- The rows passed so far hold no store to the cell, or are the own row.
-use Rattle.std.proofs.Common.{◌≡◌, ◌≤◌}
+-- Nothing pends with the rows so far.
+use Rattle.std.proofs.Common.{◌≡◌, false}
 use Rattle.discipline.specs.Elsewhere.{elsewhere_of}
 use Rattle.discipline.proofs.elsewhere.is_elsewhere.Given as goal
 
-abbrev pub invariant-loop-n : goal.invariant-loop-n
-invariant-loop-n l = (l.n ≤ l.threads) × (elsewhere_of l.queues l.threads l.t l.cell ≡ elsewhere_of l.queues l.n l.t l.cell)
-
-abbrev pub decreases-loop-n : goal.decreases-loop-n
-decreases-loop-n l = l.n
+abbrev pub invariant-loop-u : goal.invariant-loop-u
+invariant-loop-u l = elsewhere_of l.s.queues l.u l.t l.cell ≡ false
