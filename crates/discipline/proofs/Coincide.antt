@@ -4,7 +4,7 @@ use mathlib.Core.Path.{◌≡◌, sym, ◌∙◌}
 use mathlib.Core.List.{List}
 use lib.IntN.{ℤ}
 use Rattle.reader.specs.declared.state.State.{State}
-use Rattle.reader.specs.declared.Reading.{Reading}
+use Rattle.reader.specs.Reading.{Reading}
 use Rattle.reader.specs.Case.{read_of}
 use Rattle.machine.specs.declared.outcome.Outcome.{Outcome}
 use Rattle.machine.specs.declared.outcome.Ran.{Ran}

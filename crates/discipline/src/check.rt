@@ -67,18 +67,20 @@ fn short() -> Answer
 pub fn check(case: &[u8], values: &mut [i32], memory: &mut [i32]) -> Answer
     ensures { Checks case.now values.old memory.old result values.new memory.new }
 {
-    let r = reader::read(case);
-    if r.number != 0 {
-        return Answer {
-            place: r.place,
-            number: r.number,
-            thread: 0,
-        };
-    }
-    let state = r.state;
+    let read = match reader::read(case) {
+        Ok(read) => read,
+        Err(refusal) => {
+            return Answer {
+                place: refusal.place,
+                number: refusal.fault.number(),
+                thread: 0,
+            };
+        }
+    };
+    let state = read.state;
     let cells = state.cells;
-    let start = r.start;
-    if values.len() < r.items {
+    let start = read.start;
+    if values.len() < read.items {
         return short();
     }
     if memory.len() < cells {
