@@ -1,7 +1,7 @@
 -- The check of a whole case: each way out of the code is what the definition says.
 use Prim.Native.Nat.{ℕ, ◌+◌, ◌-◌, ◌<◌, ◌≤◌}
 use mathlib.Core.Bool.{true, false}
-use mathlib.Core.Path.{◌≡◌, ap, ◌∙◌}
+use mathlib.Core.Path.{◌≡◌, refl, ap, ◌∙◌}
 use mathlib.Core.List.{List, ◌++◌}
 use native.Mathlib.Omega.{arith}
 use lib.ListN.{length, take, drop, length-drop}
@@ -9,14 +9,21 @@ use lib.Seq.{take_all, get_or-drop}
 use lib.Dec.{eqb}
 use lib.IntN.{ℤ}
 use borrow.Author.Tests.{eq-eqb, ne_eqb, lt-ltb, le-ltb}
-use Rattle.reader.specs.declared.Reading.{Reading}
+use Rattle.reader.specs.Reading.{Reading}
 use Rattle.reader.specs.Bytes.{byte}
 use Rattle.reader.specs.Rules.{pick}
 use Rattle.reader.specs.Case.{read_of}
 use Rattle.reader.specs.Range.{WellFormed}
 use Rattle.reader.proofs.Accepted.{accepted}
+use Rattle.std.specs.Prelude.{Some, None}
+use Rattle.reader.specs.declared.state.State.{State}
+use Rattle.machine.specs.declared.run.Ended.{Ended}
+use Rattle.machine.specs.Hurdle.{stop_of, ran_of}
 use Rattle.machine.specs.Run.{Ran, Answers}
-use Rattle.machine.proofs.Runs.{ran_within}
+use Rattle.machine.proofs.Runs.{stop_within}
+use Rattle.discipline.specs.declared.breach.Reason.{Reason}
+use Rattle.discipline.specs.Reason.{number_of}
+use Rattle.discipline.proofs.Reasons.{reason_nonzero}
 use Rattle.discipline.specs.declared.check.Answer.{Answer}
 use Rattle.discipline.specs.Run.{Runnable, Items}
 use Rattle.discipline.specs.Step.{checked_of}
@@ -50,11 +57,12 @@ module _ {case : List ℕ} {r : Reading} (w : WellFormed case r) where
       let l = schedule_length in
       rw e (schedule_items, omega arith)
 
-  pub place_within : {xs : List ℕ} → xs ≡ schedule_of case r → {vs vs' : List ℤ} {q : Ran} → Answers checked_of r.state xs vs q vs' → r.start + q.place ≤ length case
-  place_within {xs} ex a =
+  -- the item that stops the run is in the case
+  pub stop_there : {xs : List ℕ} → xs ≡ schedule_of case r → {vs vs' : List ℤ} {q : Ran} → Answers checked_of r.state xs vs q vs' → (q.number ≡ 0 → ⊥) → r.start + q.place < length case
+  stop_there {xs} ex {q = q} a n =
       let e = w.schedule.ends in
       let l : length xs ≡ r.items = rw ex schedule_length in
-      let p = ran_within checked_of r.state 0 xs in
+      let p = stop_within checked_of r.state 0 xs (λ z. n (ap (λ (x : Ran). x.number) a.ran ∙ z)) in
       let q = ap (λ (x : Ran). x.place) a.ran in
       omega arith
 
@@ -99,3 +107,15 @@ module _ (case : List ℕ) (vs ms : List ℤ) {r : Reading} (er : r ≡ read_of 
             values = a.wrote ∙ rw (a.ran, ex) (is_run _ _ _ z t);
             memory = em ∙ rw (a.ran, ex) (is_run _ _ _ z t);
           }
+
+      -- what the code answers where all items were taken, and where a reason stopped one
+      module _ (k : r.state.cells ≤ length ms) {xs : List ℕ} (ex : xs ≡ schedule_of case r) {m : State} {e : Ended Reason} {vs' ms' : List ℤ} (a : Answers checked_of r.state xs vs (ran_of number_of m e) vs') (em : ms' ≡ take r.state.cells m.memory ++ drop r.state.cells ms) where
+        pub checks_whole : e.stopped ≡ None → Checks case vs ms (answer 0 e.place 0) vs' ms'
+        checks_whole n =
+            let z : stop_of number_of e.stopped ≡ 0 = rw n refl in
+            rw z at (checks_ran k ex a em {thread = 0} (rw z refl))
+
+        pub checks_stopped : {reason : Reason} → e.stopped ≡ Some reason → {thread : ℕ} → thread ≡ thread_of (byte case (r.start + e.place)) → Checks case vs ms (answer (number_of reason) e.place thread) vs' ms'
+        checks_stopped {reason} n {thread} et =
+            let z : stop_of number_of e.stopped ≡ number_of reason = rw n refl in
+            rw z at (checks_ran k ex a em {thread = thread} (et ∙ rw (z, ne_eqb _ 0 (reason_nonzero reason)) refl))

@@ -4,7 +4,7 @@ use mathlib.Core.Path.{◌≡◌, sym, ◌∙◌}
 use mathlib.Core.List.{List}
 use lib.IntN.{ℤ}
 use Rattle.reader.specs.declared.state.State.{State}
-use Rattle.reader.specs.declared.Reading.{Reading}
+use Rattle.reader.specs.Reading.{Reading}
 use Rattle.reader.specs.Case.{read_of}
 use Rattle.machine.specs.Run.{Outcome, Ran, Answers}
 use Rattle.discipline.specs.declared.check.Answer.{Answer}

@@ -9,7 +9,7 @@ use lib.Seq.{take_at}
 use lib.Dec.{eqb}
 use lib.IntN.{ℤ}
 use borrow.Author.Tests.{eqb-true, eqb-false}
-use Rattle.reader.specs.declared.Reading.{Reading}
+use Rattle.reader.specs.Reading.{Reading}
 use Rattle.reader.specs.Limits.{THREADS}
 use Rattle.reader.specs.State.{no_queue, outside_queue}
 use Rattle.reader.specs.Case.{read_of}

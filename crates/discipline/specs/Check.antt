@@ -1,6 +1,6 @@
 -- What a check of a whole case answers, and what it leaves in the two lent lists, for every byte string whatsoever.
 use Rattle.std.specs.Prelude.{ℕ, ◌+◌, ◌-◌, Bool, ◌||◌, ◌≡◌, List, ◌++◌, length, take, drop, eqb, leb, ltb, ℤ}
-use Rattle.reader.specs.declared.Reading.{Reading}
+use Rattle.reader.specs.Reading.{Reading}
 use Rattle.reader.specs.Bytes.{byte}
 use Rattle.reader.specs.Rules.{pick}
 use Rattle.reader.specs.Case.{read_of}

@@ -1,6 +1,8 @@
 // The check of a whole case: read it, see that the lent lists are long enough, run it, and give back what it brought.
 ghost use Rattle.std.specs.Prelude.{◌≡◌};
-ghost use Rattle.discipline.specs.Check.{answer, thread_of};
+ghost use Rattle.discipline.specs.Check.{answer, thread_of, Checks};
+
+use crate::run;
 
 #[repr(C)]
 #[derive(Clone, Copy, Debug, PartialEq, Eq)]
@@ -30,3 +32,30 @@ pub fn thread(item: u8) -> u32
     u32::from(if item >= 17 { item - 16 } else { item })
 }
 
+// The answer where a lent list is too short.
+const LIST_TOO_SHORT: u32 = 9;
+
+// The answer of any byte string. Nothing is written to a list unless the case is well-formed and both lists are long enough.
+pub fn check(case: &[u8], values: &mut [i32], memory: &mut [i32]) -> Answer
+    ensures { Checks case.now values.old memory.old result values.new memory.new }
+{
+    let read = match reader::read(case) {
+        Ok(read) => read,
+        Err(refusal) => return Answer::of(refusal.fault.number(), refusal.place),
+    };
+    let mut state = read.state;
+    let cells = state.cells;
+    if values.len() < read.items || memory.len() < cells {
+        return Answer::of(LIST_TOO_SHORT, 0);
+    }
+    let ended = run::ran(&mut state, &case[read.start..], values);
+    memory[..cells].copy_from_slice(&state.memory[..cells]);
+    match ended.stopped {
+        None => Answer::of(0, ended.place),
+        Some(reason) => Answer {
+            place: ended.place,
+            number: u32::from(reason),
+            thread: thread(case[read.start + ended.place]),
+        },
+    }
+}

@@ -37,6 +37,16 @@ module _ (step : State → ℕ → Outcome) where
       go true h = omega arith
       go false h = omega arith
 
+  -- an item that stops a run is one of them
+  pub stop_within : (m : State) (k : ℕ) (xs : List ℕ) → ((run_of step m k xs).number ≡ 0 → ⊥) → (run_of step m k xs).place < k + length xs
+  unfolding run_of
+  stop_within m k [] n = absurd (n refl)
+  stop_within m k (x ∷ xs) n = go (eqb (step m x).number 0) (stop_within (step m x).state (suc k) xs) n
+    where
+      go : (b : Bool) → (((run_of step (step m x).state (suc k) xs).number ≡ 0 → ⊥) → (run_of step (step m x).state (suc k) xs).place < suc k + length xs) → ((pick b (run_of step (step m x).state (suc k) xs) (record { state = m; place = k; number = (step m x).number })).number ≡ 0 → ⊥) → (pick b (run_of step (step m x).state (suc k) xs) (record { state = m; place = k; number = (step m x).number })).place < k + suc (length xs)
+      go true h z = let l = h z in omega arith
+      go false h z = omega arith
+
   module _ {P : State → Type 0} where
     pub start : (m : State) (xs : List ℕ) (vs : List ℤ) → P m → Going step P m xs vs m 0 vs
     start m xs vs p = record { below = omega arith; ran = refl; wrote = refl; kept = refl; long = refl; good = p }

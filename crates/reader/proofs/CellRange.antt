@@ -10,7 +10,7 @@ use lib.Seq.{get_or-set_same, get_or-set_other}
 use borrow.Author.Tests.{leb-true, ltb-true}
 use Rattle.reader.specs.declared.bytes.Cell.{Cell}
 use Rattle.reader.specs.declared.state.State.{State}
-use Rattle.reader.specs.declared.judged.Part.{Part}
+use Rattle.reader.specs.Reading.{Part}
 use Rattle.reader.specs.Limits.{CELLS}
 use Rattle.reader.specs.Bytes.{cell_at}
 use Rattle.reader.specs.Rules.{cell_bytes, cell_wrong}

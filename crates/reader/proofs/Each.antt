@@ -5,7 +5,7 @@ use mathlib.Core.Path.{◌≡◌, refl, sym, ◌∙◌}
 use native.Mathlib.Omega.{arith}
 use native.Mathlib.Numerals.{add-one}
 use borrow.Author.Tests.{eq-eqb, ne_eqb, eqb-true, eqb-false}
-use Rattle.reader.specs.declared.judged.Judged.{Judged}
+use Rattle.reader.specs.Reading.{Judged}
 use Rattle.reader.specs.Case.{fine, go_on, each}
 
 -- i of the n turns were taken, from a₀ to a

@@ -7,7 +7,7 @@ use native.Mathlib.Omega.{arith}
 use lib.Dec.{leb}
 use lib.ListN.{length}
 use borrow.Author.Tests.{le-leb, lt-leb, leb-true, eq-eqb, eqb-true, eqb-false}
-use Rattle.reader.specs.declared.judged.Judged.{Judged}
+use Rattle.reader.specs.Reading.{Judged}
 use Rattle.reader.specs.Rules.{pick}
 use Rattle.reader.specs.Case.{refuse, next, fine, and_then, need, verdict_of, field, whole}
 

@@ -2,6 +2,7 @@ pub mod Shift
 pub mod Row
 pub mod Tests
 pub mod Each
+pub mod Refused
 pub mod Fields
 pub mod Turns
 pub mod Instructions

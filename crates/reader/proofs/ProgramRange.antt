@@ -9,7 +9,7 @@ use lib.Seq.{get_or-set_same, get_or-set_other}
 use borrow.Author.Tests.{eq-eqb}
 use Rattle.reader.specs.declared.state.Instruction.{Instruction}
 use Rattle.reader.specs.declared.state.State.{State}
-use Rattle.reader.specs.declared.judged.Part.{Part}
+use Rattle.reader.specs.Reading.{Part}
 use Rattle.reader.specs.Limits.{THREADS, INSTRUCTIONS}
 use Rattle.reader.specs.Bytes.{byte, instruction_at}
 use Rattle.reader.specs.Rules.{instruction_bytes, instruction_wrong}

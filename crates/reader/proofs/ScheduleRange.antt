@@ -8,7 +8,7 @@ use native.Mathlib.Decide.{ℕ_discrete}
 use lib.Dec.{leb}
 use lib.ListN.{length}
 use borrow.Author.Tests.{leb-true}
-use Rattle.reader.specs.declared.judged.Judged.{Judged}
+use Rattle.reader.specs.Reading.{Judged}
 use Rattle.reader.specs.Limits.{ITEMS}
 use Rattle.reader.specs.Bytes.{byte, pair_at}
 use Rattle.reader.specs.Rules.{item_fits}

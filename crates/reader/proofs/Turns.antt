@@ -1,20 +1,23 @@
 -- What a field that is fine holds, and that one turn of each loop of the reader is one field of the definition.
 use Prim.Native.Nat.{ℕ, ◌+◌, ◌≤◌, ◌<◌}
-use mathlib.Core.Path.{◌≡◌}
+use mathlib.Core.Path.{◌≡◌, ap, ◌∙◌}
 use mathlib.Core.List.{List}
 use native.Mathlib.Omega.{arith}
 use lib.Dec.{leb}
 use lib.ListN.{length}
-use borrow.Author.Tests.{eq-eqb, ne_eqb}
-use Rattle.reader.specs.declared.judged.Judged.{Judged}
+use borrow.Author.Tests.{ne_eqb}
+use Rattle.reader.specs.declared.refusal.Refusal.{Refusal}
+use Rattle.reader.specs.Reading.{Judged}
 use Rattle.reader.specs.declared.bytes.Cell.{Cell}
 use Rattle.reader.specs.declared.state.Instruction.{Instruction}
 use Rattle.reader.specs.declared.state.State.{State}
 use Rattle.reader.specs.Bytes.{byte, pair_at, cell_at, instruction_at}
 use Rattle.reader.specs.Rules.{cell_bytes, cell_wrong, instruction_bytes, instruction_wrong, within}
 use Rattle.reader.specs.Limits.{INSTRUCTIONS, ITEMS}
-use Rattle.reader.specs.Case.{whole, count_judged, cell_judged, with_cell, cell_into, instruction_judged, with_instruction, instruction_into, with_count, instructions_of, program_into, item_count_judged, schedule_judged}
-use Rattle.reader.proofs.Fields.{refuses, then_fine, whole_fine, field_there, field_right}
+use Rattle.reader.specs.Case.{next, whole, count_judged, cell_judged, with_cell, cell_into, instruction_judged, with_instruction, instruction_into, with_count, instructions_of, program_into, item_count_judged, schedule_judged}
+use Rattle.reader.proofs.Fields.{refuses, then_fine, whole_fine, field_there, field_right, field_next}
+use Rattle.reader.specs.Refusal.{refusal_of, part_at}
+use Rattle.reader.proofs.Refused.{refused, fine_by}
 use Rattle.reader.proofs.Tests.{within_true}
 
 module _ (s : List ℕ) where
@@ -44,34 +47,42 @@ module _ (s : List ℕ) where
   unfolding item_count_judged
   item_count_there p e = let h = field_there s 2 4 p (whole (leb (pair_at s p) ITEMS) 2) (refuses 3) e in omega arith
 
+  -- the items stand behind a count that is fine
+  pub item_count_on : (p q : ℕ) → next q ≡ item_count_judged s p → (q ≡ p + 2) × (p + 2 ≤ length s)
+  unfolding item_count_judged
+  item_count_on p q e =
+      let n = field_next s 2 4 p (whole (leb (pair_at s p) ITEMS) 2) (refuses 3) (fine_by e) in
+      (ap (λ (j : Judged). j.place) e ∙ n, item_count_there p (fine_by e))
+
   pub schedule_there : (threads p : ℕ) → (schedule_judged s threads p).number ≡ 0 → p + 2 ≤ length s
   unfolding schedule_judged
   schedule_there threads p e = item_count_there p (then_fine (item_count_judged s p) _ e).0
 
-  module _ (j k : Judged) (m : State) where
-    module _ (c : ℕ) (e : k ≡ cell_judged s m.threads j.place) where
-      pub cell_on : k.number ≡ 0 → (x : Cell) → x ≡ cell_at s j.place → record { judged = k; state = with_cell m c x } ≡ cell_into s c (record { judged = j; state = m })
+  -- one turn: where the field at p gives where the next one begins, and where it is refused
+  module _ (p : ℕ) (m : State) where
+    module _ (c : ℕ) where
+      pub cell_on : (q : ℕ) → next q ≡ cell_judged s m.threads p → (x : Cell) → x ≡ cell_at s p → part_at q (with_cell m c x) ≡ cell_into s c (part_at p m)
       unfolding cell_into
-      cell_on z x f = let y = rw e at z in rw (e, f, eq-eqb _ _ y)
+      cell_on q e x f = rw (← e, f)
 
-      pub cell_off : (k.number ≡ 0 → ⊥) → record { judged = k; state = m } ≡ cell_into s c (record { judged = j; state = m })
+      pub cell_off : (d : Refusal) → refusal_of d ≡ cell_judged s m.threads p → record { judged = refusal_of d; state = m } ≡ cell_into s c (part_at p m)
       unfolding cell_into
-      cell_off z = let y = rw e at z in rw (e, ne_eqb _ _ y)
+      cell_off d e = rw (← e, ne_eqb _ _ (refused d))
 
-    module _ (t count i : ℕ) (e : k ≡ instruction_judged s m.cells count j.place) where
-      pub instruction_on : k.number ≡ 0 → (x : Instruction) → x ≡ instruction_at s j.place → record { judged = k; state = with_instruction m t i x } ≡ instruction_into s t count i (record { judged = j; state = m })
+    module _ (t count i : ℕ) where
+      pub instruction_on : (q : ℕ) → next q ≡ instruction_judged s m.cells count p → (x : Instruction) → x ≡ instruction_at s p → part_at q (with_instruction m t i x) ≡ instruction_into s t count i (part_at p m)
       unfolding instruction_into
-      instruction_on z x f = let y = rw e at z in rw (e, f, eq-eqb _ _ y)
+      instruction_on q e x f = rw (← e, f)
 
-      pub instruction_off : (k.number ≡ 0 → ⊥) → record { judged = k; state = m } ≡ instruction_into s t count i (record { judged = j; state = m })
+      pub instruction_off : (d : Refusal) → refusal_of d ≡ instruction_judged s m.cells count p → record { judged = refusal_of d; state = m } ≡ instruction_into s t count i (part_at p m)
       unfolding instruction_into
-      instruction_off z = let y = rw e at z in rw (e, ne_eqb _ _ y)
+      instruction_off d e = rw (← e, ne_eqb _ _ (refused d))
 
-    module _ (t : ℕ) (e : k ≡ count_judged s 0 INSTRUCTIONS j.place) where
-      pub program_on : k.number ≡ 0 → (n : ℕ) → n ≡ byte s j.place → instructions_of s t n (record { judged = k; state = with_count m t n }) ≡ program_into s t (record { judged = j; state = m })
+    module _ (t : ℕ) where
+      pub program_on : (q : ℕ) → next q ≡ count_judged s 0 INSTRUCTIONS p → (n : ℕ) → n ≡ byte s p → instructions_of s t n (part_at q (with_count m t n)) ≡ program_into s t (part_at p m)
       unfolding program_into
-      program_on z n f = let y = rw e at z in rw (e, f, eq-eqb _ _ y)
+      program_on q e n f = rw (← e, f)
 
-      pub program_off : (k.number ≡ 0 → ⊥) → record { judged = k; state = m } ≡ program_into s t (record { judged = j; state = m })
+      pub program_off : (d : Refusal) → refusal_of d ≡ count_judged s 0 INSTRUCTIONS p → record { judged = refusal_of d; state = m } ≡ program_into s t (part_at p m)
       unfolding program_into
-      program_off z = let y = rw e at z in rw (e, ne_eqb _ _ y)
+      program_off d e = rw (← e, ne_eqb _ _ (refused d))

@@ -5,6 +5,8 @@ pub mod Drain
 pub mod Operations
 pub mod Rules
 pub mod Bytes
+pub mod Reading
 pub mod Case
+pub mod Refusal
 pub mod Range
 pub mod Samples

@@ -1,7 +1,7 @@
 -- The reader's promise to the layers above: what a state in range is, and what a case that is not refused gives.
 use Rattle.std.specs.Prelude.{ℕ, ◌+◌, ◌*◌, ◌≤◌, ◌<◌, true, ◌≡◌, List, length, get_or}
 use Rattle.reader.specs.declared.state.State.{State}
-use Rattle.reader.specs.declared.Reading.{Reading}
+use Rattle.reader.specs.Reading.{Reading}
 use Rattle.reader.specs.Limits.{THREADS, CELLS, REGISTERS, DEPTH, INSTRUCTIONS, ITEMS}
 use Rattle.reader.specs.State.{no_pending, queue_of, position_of, count_of, instruction_of, owner_of, sharing_of, fresh_of}
 use Rattle.reader.specs.Rules.{instruction_bytes, instruction_wrong, item_fits}

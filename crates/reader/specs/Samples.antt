@@ -1,6 +1,6 @@
 -- Cases and how they are read: the smallest one, R1, and refusals of every number from 1 to 8, gathered as one list with one proved claim.
 use Rattle.std.specs.Prelude.{ℕ, List, [], ◌∷◌, ◌++◌, map, ◌≡◌, refl, take, set, pos, negsuc}
-use Rattle.reader.specs.declared.judged.Judged.{Judged}
+use Rattle.reader.specs.Reading.{Judged}
 use Rattle.reader.specs.Operations.{uses_of}
 use Rattle.reader.specs.State.{instruction_of, memory_of}
 use Rattle.reader.specs.Bytes.{value_at, cell_at, instruction_at}

@@ -2,48 +2,35 @@
 ghost use Rattle.std.specs.Prelude.{◌≡◌, ◌≤◌};
 ghost use Rattle.reader.specs.Limits.{CELLS};
 ghost use Rattle.reader.specs.Case.{cell_judged, cells_of};
+ghost use Rattle.reader.specs.Refusal.{judged_of, part_of, part_at};
 
-use crate::judged::{Judged, Part};
-use crate::{bytes, judged, rules};
+use crate::refusal::{Fault, Refusal};
+use crate::state::State;
+use crate::{bytes, field, rules};
 
-#[tactic(auto, unfolding(crate::specs::Case::cell_judged, crate::specs::Case::field))]
-fn cell(case: &[u8], threads: usize, at: usize) -> Judged
-    ensures { result ≡ cell_judged case.now threads at }
+#[tactic(auto, unfolding(crate::specs::Case::cell_judged, crate::specs::Case::field, crate::specs::Case::verdict_of))]
+fn cell(case: &[u8], threads: usize, at: usize) -> Result<usize, Refusal>
+    ensures { judged_of result ≡ cell_judged case.now threads at }
 {
-    if case.len().saturating_sub(at) < rules::CELL_BYTES {
-        return judged::missing(at);
-    }
+    let next = field::end(case, at, rules::CELL_BYTES)?;
     let x = bytes::cell_at(case, at);
-    let wrong = rules::cell_wrong(threads, x.owner, x.sharing);
-    judged::verdict(rules::CELL_BYTES, 6, at, wrong.unwrap_or(rules::CELL_BYTES))
+    match rules::cell_wrong(threads, x.owner, x.sharing) {
+        Some(wrong) => Err(Fault::Cell.at(at + wrong)),
+        None => Ok(next),
+    }
 }
 
-pub fn read(case: &[u8], part: Part) -> Part
-    requires { part.state.cells ≤ CELLS }
-    ensures { result ≡ cells_of case.now part }
+pub fn read(case: &[u8], state: &mut State, mut at: usize) -> Result<usize, Refusal>
+    requires { state.old.cells ≤ CELLS }
+    ensures { part_of result state.new ≡ cells_of case.now (part_at at state.old) }
 {
-    let mut s = part.state;
-    let mut j = part.judged;
-    let cells = s.cells;
-    let mut c = 0;
-    while c < cells {
-        let at = j.place;
-        j = cell(case, s.threads, at);
-        if j.number != 0 {
-            return Part {
-                judged: j,
-                state: s,
-            };
-        }
+    for c in 0..state.cells {
+        let next = cell(case, state.threads, at)?;
         let x = bytes::cell_at(case, at);
-        let v = x.value;
-        s.memory[c] = v;
-        s.owners[c] = x.owner;
-        s.sharing[c] = x.sharing;
-        c += 1;
+        state.memory[c] = x.value;
+        state.owners[c] = x.owner;
+        state.sharing[c] = x.sharing;
+        at = next;
     }
-    Part {
-        judged: j,
-        state: s,
-    }
+    Ok(at)
 }

@@ -1,27 +1,26 @@
 #![tactic(auto)]
 
 // The lowest layer: what a case is, and from bytes to the state that it starts. Nothing here knows how a thread steps.
-ghost use Rattle.std.specs.Prelude.{◌≡◌, ◌+◌, ◌≤◌, length};
-ghost use Rattle.reader.specs.Case.{front_judged, sizes_judged, sized_of, refused_of, scheduled_of, read_of};
-ghost use Rattle.reader.specs.Limits.{CELLS};
+ghost use Rattle.std.specs.Prelude.{◌≡◌, ◌≤◌, length};
+ghost use Rattle.reader.specs.Case.{front_judged, sizes_judged, sized_of, read_of};
+ghost use Rattle.reader.specs.Refusal.{judged_of, reading_of};
 
 pub mod bytes;
 mod cells;
-mod judged;
+mod field;
 pub mod operations;
 mod programs;
+pub mod refusal;
 pub mod rules;
 mod schedule;
 pub mod state;
 
-use judged::{Judged, Part};
+use refusal::{Fault, Refusal};
 use state::State;
 
-// A case that was read: the number and the place of a refusal; or number 0, the state that the case starts, and where its schedule stands.
+// A case that was read: the state that it starts, and where its schedule stands.
 #[derive(Clone, Copy)]
-pub struct Reading {
-    pub number: u32,
-    pub place: usize,
+pub struct Case {
     pub state: State,
     pub start: usize,
     pub items: usize,
@@ -29,47 +28,29 @@ pub struct Reading {
 
 // Length, version and the length field.
 #[tactic(auto, unfolding(crate::specs::Case::front_judged))]
-fn front(case: &[u8]) -> Judged
-    ensures { result ≡ front_judged case.now }
+fn front(case: &[u8]) -> Result<usize, Refusal>
+    ensures { judged_of result ≡ front_judged case.now }
 {
     if case.len() < 3 {
-        return Judged {
-            place: 0,
-            number: 1,
-        };
+        return Err(Fault::Short.at(0));
     }
     if case[0] != 1 {
-        return Judged {
-            place: 0,
-            number: 2,
-        };
+        return Err(Fault::Version.at(0));
     }
     if bytes::pair_at(case, 1) != case.len() {
-        return Judged {
-            place: 1,
-            number: 3,
-        };
+        return Err(Fault::Length.at(1));
     }
-    Judged {
-        place: 3,
-        number: 0,
-    }
+    Ok(3)
 }
 
 // Threads, cells and depth.
 #[tactic(auto, unfolding(crate::specs::Case::sizes_judged))]
-fn sizes(case: &[u8]) -> Judged
-    ensures { result ≡ sizes_judged case.now }
+fn sizes(case: &[u8]) -> Result<usize, Refusal>
+    ensures { judged_of result ≡ sizes_judged case.now }
 {
-    let threads = judged::count(case, 1, State::THREADS, 3);
-    if threads.number != 0 {
-        return threads;
-    }
-    let cells = judged::count(case, 1, State::CELLS, 4);
-    if cells.number != 0 {
-        return cells;
-    }
-    judged::count(case, 1, State::DEPTH, 5)
+    field::count(case, 1, State::THREADS, 3)?;
+    field::count(case, 1, State::CELLS, 4)?;
+    field::count(case, 1, State::DEPTH, 5)
 }
 
 // The fresh state with the sizes of a case.
@@ -77,79 +58,28 @@ fn sized(case: &[u8]) -> State
     requires { 6 ≤ length case.now }
     ensures { result ≡ sized_of case.now }
 {
-    let mut s = State::fresh();
-    s.threads = usize::from(case[3]);
-    s.cells = usize::from(case[4]);
-    s.depth = usize::from(case[5]);
-    s
-}
-
-#[tactic(auto, unfolding(crate::specs::Case::refused_of))]
-fn refused(j: Judged) -> Reading
-    ensures { result ≡ refused_of j }
-{
-    let state = State::fresh();
-    Reading {
-        number: j.number,
-        place: j.place,
-        state: state,
-        start: 0,
-        items: 0,
-    }
-}
-
-// The schedule, behind all that is in the part.
-fn scheduled(case: &[u8], part: Part) -> Reading
-    ensures { result ≡ scheduled_of case.now part }
-{
-    let at = part.judged.place;
-    let state = part.state;
-    let j = schedule::judge(case, state.threads, at);
-    if j.number != 0 {
-        return refused(j);
-    }
-    let items = bytes::pair_at(case, at);
-    Reading {
-        number: 0,
-        place: 0,
-        state: state,
-        start: at + 2,
-        items: items,
+    State {
+        threads: usize::from(case[3]),
+        cells: usize::from(case[4]),
+        depth: usize::from(case[5]),
+        ..State::fresh()
     }
 }
 
 // What a case says, or why it says nothing.
-pub fn read(case: &[u8]) -> Reading
-    ensures { result ≡ read_of case.now }
+#[tactic(auto, unfolding(crate::specs::Case::read_of, crate::specs::Case::scheduled_of))]
+pub fn read(case: &[u8]) -> Result<Case, Refusal>
+    ensures { reading_of result ≡ read_of case.now }
 {
-    let j = front(case);
-    if j.number != 0 {
-        return refused(j);
-    }
-    let k = sizes(case);
-    if k.number != 0 {
-        return refused(k);
-    }
-    let state = sized(case);
-    let first = Judged {
-        place: 6,
-        number: 0,
-    };
-    let c = cells::read(
-        case,
-        Part {
-            judged: first,
-            state: state,
-        },
-    );
-    let l = c.judged;
-    if l.number != 0 {
-        return refused(l);
-    }
-    let a = programs::read(case, c);
-    let m = a.judged;
-    if m.number != 0 {
-        return refused(m);
-    }
-    scheduled(case, a)
+    front(case)?;
+    sizes(case)?;
+    let mut state = sized(case);
+    let at = cells::read(case, &mut state, 6)?;
+    let at = programs::read(case, &mut state, at)?;
+    schedule::judge(case, state.threads, at)?;
+    Ok(Case {
+        state,
+        start: at + 2,
+        items: bytes::pair_at(case, at),
+    })
 }

@@ -2,91 +2,59 @@
 ghost use Rattle.std.specs.Prelude.{◌≡◌, ◌≤◌, ◌<◌};
 ghost use Rattle.reader.specs.Limits.{THREADS, INSTRUCTIONS};
 ghost use Rattle.reader.specs.Case.{instruction_judged, instructions_of, program_into, programs_of};
+ghost use Rattle.reader.specs.Refusal.{judged_of, part_of, part_at};
 
-use crate::judged::{Judged, Part};
+use crate::refusal::{Fault, Refusal};
 use crate::state::State;
-use crate::{bytes, judged, rules};
+use crate::{bytes, field, rules};
 
-#[tactic(auto, unfolding(crate::specs::Case::instruction_judged, crate::specs::Case::field))]
-fn instruction(case: &[u8], cells: usize, count: usize, at: usize) -> Judged
-    ensures { result ≡ instruction_judged case.now cells count at }
+#[tactic(auto, unfolding(crate::specs::Case::instruction_judged, crate::specs::Case::field, crate::specs::Case::verdict_of))]
+fn instruction(case: &[u8], cells: usize, count: usize, at: usize) -> Result<usize, Refusal>
+    ensures { judged_of result ≡ instruction_judged case.now cells count at }
 {
-    if case.len().saturating_sub(at) < rules::INSTRUCTION_BYTES {
-        return judged::missing(at);
+    let next = field::end(case, at, rules::INSTRUCTION_BYTES)?;
+    match rules::instruction_wrong(cells, count, bytes::instruction_at(case, at)) {
+        Some(wrong) => Err(Fault::Instruction.at(at + wrong)),
+        None => Ok(next),
     }
-    let wrong = rules::instruction_wrong(cells, count, bytes::instruction_at(case, at));
-    judged::verdict(
-        rules::INSTRUCTION_BYTES,
-        7,
-        at,
-        wrong.unwrap_or(rules::INSTRUCTION_BYTES),
-    )
 }
 
 // The instructions of row t, of which there are `count`.
-fn instructions(case: &[u8], t: usize, count: usize, part: Part) -> Part
+fn instructions(
+    case: &[u8],
+    state: &mut State,
+    t: usize,
+    count: usize,
+    mut at: usize,
+) -> Result<usize, Refusal>
     requires { (t < THREADS) × (count ≤ INSTRUCTIONS) }
-    ensures { result ≡ instructions_of case.now t count part }
+    ensures { part_of result state.new ≡ instructions_of case.now t count (part_at at state.old) }
 {
-    let mut s = part.state;
-    let mut j = part.judged;
-    let mut k = 0;
-    while k < count {
-        let at = j.place;
-        j = instruction(case, s.cells, count, at);
-        if j.number != 0 {
-            return Part {
-                judged: j,
-                state: s,
-            };
-        }
-        let x = bytes::instruction_at(case, at);
-        let p = t * State::INSTRUCTIONS + k;
-        s.code[p] = x;
-        k += 1;
+    for k in 0..count {
+        let next = instruction(case, state.cells, count, at)?;
+        state.code[t * State::INSTRUCTIONS + k] = bytes::instruction_at(case, at);
+        at = next;
     }
-    Part {
-        judged: j,
-        state: s,
-    }
+    Ok(at)
 }
 
 // One thread's program: its count, then its instructions.
-fn program(case: &[u8], t: usize, part: Part) -> Part
+fn program(case: &[u8], state: &mut State, t: usize, at: usize) -> Result<usize, Refusal>
     requires { t < THREADS }
-    ensures { result ≡ program_into case.now t part }
+    ensures { part_of result state.new ≡ program_into case.now t (part_at at state.old) }
 {
-    let at = part.judged.place;
-    let mut s = part.state;
-    let j = judged::count(case, 0, State::INSTRUCTIONS, at);
-    if j.number != 0 {
-        return Part {
-            judged: j,
-            state: s,
-        };
-    }
+    let next = field::count(case, 0, State::INSTRUCTIONS, at)?;
     let count = usize::from(case[at]);
-    s.counts[t] = count;
-    let counted = Part {
-        judged: j,
-        state: s,
-    };
-    instructions(case, t, count, counted)
+    state.counts[t] = count;
+    instructions(case, state, t, count, next)
 }
 
-pub fn read(case: &[u8], part: Part) -> Part
-    requires { part.state.threads ≤ THREADS }
-    ensures { result ≡ programs_of case.now part }
+pub fn read(case: &[u8], state: &mut State, mut at: usize) -> Result<usize, Refusal>
+    requires { state.old.threads ≤ THREADS }
+    ensures { part_of result state.new ≡ programs_of case.now (part_at at state.old) }
 {
-    let threads = part.state.threads;
-    let mut a = part;
-    let mut t = 0;
-    while t < threads {
-        a = program(case, t, a);
-        if a.judged.number != 0 {
-            return a;
-        }
-        t += 1;
+    for t in 0..state.threads {
+        at = program(case, state, t, at)?;
     }
-    a
+    Ok(at)
 }

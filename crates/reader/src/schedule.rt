@@ -1,70 +1,55 @@
 // The schedule of a case, which stays where it stands: only judged here.
-ghost use Rattle.std.specs.Prelude.{◌≡◌, ◌≤◌};
-ghost use Rattle.reader.specs.Case.{item_judged, items_judged, item_count_judged, schedule_judged};
+ghost use Rattle.std.specs.Prelude.{◌≡◌, ℕ, ◌+◌, ◌≤◌, length, IfOk};
+ghost use Rattle.reader.specs.Case.{next, item_judged, items_judged, item_count_judged, schedule_judged};
+ghost use Rattle.reader.specs.Refusal.{judged_of};
 
-use crate::judged::Judged;
+use crate::refusal::{Fault, Refusal};
 use crate::state::State;
-use crate::{bytes, judged, rules};
+use crate::{bytes, field, rules};
 
-// The k-th item, which stands where j says.
-#[tactic(auto, unfolding(crate::specs::Case::item_judged, crate::specs::Case::field))]
-fn item(case: &[u8], threads: usize, k: usize, j: Judged) -> Judged
-    ensures { result ≡ item_judged case.now threads k j }
+// An item is judged alike wherever it stands in the schedule.
+#[tactic(auto, unfolding(crate::specs::Case::item_judged, crate::specs::Case::field, crate::specs::Case::verdict_of))]
+fn item(case: &[u8], threads: usize, at: usize) -> Result<usize, Refusal>
+    ensures { (k : ℕ) → judged_of result ≡ item_judged case.now threads k (next at) }
 {
-    let at = j.place;
-    if case.len().saturating_sub(at) < 1 {
-        return judged::missing(at);
+    let next = field::end(case, at, 1)?;
+    if !rules::item_fits(threads, usize::from(case[at])) {
+        return Err(Fault::Item.at(at));
     }
-    let ok = rules::item_fits(threads, usize::from(case[at]));
-    judged::verdict(1, 8, at, judged::whole_if(ok, 1))
+    Ok(next)
 }
 
-fn items(case: &[u8], threads: usize, n: usize, at: usize) -> Judged
-    ensures { result ≡ items_judged case.now threads n at }
+fn items(case: &[u8], threads: usize, n: usize, mut at: usize) -> Result<usize, Refusal>
+    ensures { judged_of result ≡ items_judged case.now threads n at }
 {
-    let mut j = Judged {
-        place: at,
-        number: 0,
-    };
-    let mut k = 0;
-    while k < n {
-        j = item(case, threads, k, j);
-        if j.number != 0 {
-            return j;
-        }
-        k += 1;
+    for _ in 0..n {
+        at = item(case, threads, at)?;
     }
-    j
+    Ok(at)
 }
 
 // The count of the schedule: one field of two bytes.
-#[tactic(auto, unfolding(crate::specs::Case::item_count_judged, crate::specs::Case::field))]
-fn count(case: &[u8], at: usize) -> Judged
-    ensures { result ≡ item_count_judged case.now at }
+#[tactic(auto, unfolding(crate::specs::Case::item_count_judged, crate::specs::Case::field, crate::specs::Case::verdict_of))]
+fn count(case: &[u8], at: usize) -> Result<usize, Refusal>
+    ensures judged { judged_of result ≡ item_count_judged case.now at }
+    ensures there { IfOk result (λ end. (end ≡ at + 2) × (end ≤ length case.now)) }
 {
-    if case.len().saturating_sub(at) < 2 {
-        return judged::missing(at);
+    let next = field::end(case, at, 2)?;
+    if bytes::pair_at(case, at) > State::ITEMS {
+        return Err(Fault::Count.at(at));
     }
-    let ok = bytes::pair_at(case, at) <= State::ITEMS;
-    judged::verdict(2, 4, at, judged::whole_if(ok, 2))
+    Ok(next)
 }
 
 // The count, the items, and that nothing is left over.
-pub fn judge(case: &[u8], threads: usize, at: usize) -> Judged
-    ensures { result ≡ schedule_judged case.now threads at }
+#[tactic(auto, unfolding(crate::specs::Case::schedule_judged))]
+pub fn judge(case: &[u8], threads: usize, at: usize) -> Result<usize, Refusal>
+    ensures { judged_of result ≡ schedule_judged case.now threads at }
 {
-    let counted = count(case, at);
-    if counted.number != 0 {
-        return counted;
-    }
-    let n = bytes::pair_at(case, at);
-    let j = items(case, threads, n, at + 2);
-    if j.number != 0 {
-        return j;
-    }
-    let end = j.place;
+    let first = count(case, at)?;
+    let end = items(case, threads, bytes::pair_at(case, at), first)?;
     if end < case.len() {
-        return judged::missing(end);
+        return Err(Fault::Missing.at(end));
     }
-    j
+    Ok(end)
 }

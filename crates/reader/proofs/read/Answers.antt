@@ -1,38 +1,21 @@
--- The parts in turn: each return by the law of the part that led to it.
+-- What the sizes allow, and that a schedule that is fine has its count.
 use Rattle.std.proofs.Common.{arith}
-use Rattle.reader.proofs.Parts.{sizes_fine, front_off, sizes_off, cells_off, programs_off, parts_fine, threads_celled}
+use Rattle.reader.proofs.Refused.{fine_by}
+use Rattle.reader.proofs.Parts.{sizes_fine, threads_celled}
+use Rattle.reader.proofs.Turns.{schedule_there}
 use Rattle.reader.proofs.read.Goals as goal
 
-pub returns-then-j-ne0 : goal.returns-then-j-ne0
-returns-then-j-ne0 c = front_off _ c.front-j.ensures c.if-j-ne0.true c.refused.ensures
-
-pub returns-then-k-ne0 : goal.returns-then-k-ne0
-returns-then-k-ne0 c = sizes_off _ c.front-j.ensures c.if-j-ne0.false c.sizes-k.ensures c.if-k-ne0.true c.refused-then-k-ne0.ensures
-
 pub sized-state-requires : goal.sized-state-requires
-sized-state-requires c =
-    let z = sizes_fine _ (rw c.sizes-k.ensures at c.if-k-ne0.false) in
-    let h = z.depth.there in
-    omega arith
+sized-state-requires c = let h = (sizes_fine _ (fine_by c.in_ok-sizes.ensures)).depth.there in omega arith
 
-pub read-c-requires : goal.read-c-requires
-read-c-requires c =
-    let z = sizes_fine _ (rw c.sizes-k.ensures at c.if-k-ne0.false) in
-    let h = z.cells.most in
-    rw c.sized-state.ensures h
+pub read-requires : goal.read-requires
+read-requires c = rw c.sized-state.ensures (sizes_fine _ (fine_by c.in_ok-sizes.ensures)).cells.most
 
-pub returns-then-l-ne0 : goal.returns-then-l-ne0
-returns-then-l-ne0 c =
-    cells_off _ c.front-j.ensures c.if-j-ne0.false c.sizes-k.ensures c.if-k-ne0.false c.sized-state.ensures c.read-c.ensures c.if-l-ne0.true c.refused-then-l-ne0.ensures
+pub read-requires-2 : goal.read-requires-2
+read-requires-2 c = threads_celled _ (fine_by c.in_ok-sizes.ensures) c.sized-state.ensures c.in_ok-at.ensures
 
-pub read-a-requires : goal.read-a-requires
-read-a-requires c =
-    threads_celled _ (rw c.sizes-k.ensures at c.if-k-ne0.false) c.sized-state.ensures c.read-c.ensures
+pub overflow_add-result : goal.overflow_add-result
+overflow_add-result c = let h = schedule_there _ _ _ (fine_by c.in_ok-judge.ensures) in omega arith
 
-pub returns-then-m-ne0 : goal.returns-then-m-ne0
-returns-then-m-ne0 c =
-    programs_off _ c.front-j.ensures c.if-j-ne0.false c.sizes-k.ensures c.if-k-ne0.false c.sized-state.ensures c.read-c.ensures c.if-l-ne0.false c.read-a.ensures c.if-m-ne0.true c.refused-then-m-ne0.ensures
-
-pub returns : goal.returns
-returns c =
-    parts_fine _ c.front-j.ensures c.if-j-ne0.false c.sizes-k.ensures c.if-k-ne0.false c.sized-state.ensures c.read-c.ensures c.if-l-ne0.false c.read-a.ensures c.if-m-ne0.false c.scheduled.ensures
+pub pair_at-requires : goal.pair_at-requires
+pair_at-requires c = schedule_there _ _ _ (fine_by c.in_ok-judge.ensures)

@@ -1,23 +1,26 @@
--- Each turn takes one instruction; the loop changes the state in place.
-use Rattle.std.proofs.Common.{arith}
+-- Each turn takes one instruction.
+use Rattle.std.proofs.Common.{arith, refl}
 use Rattle.reader.specs.Case.{instructions_of}
 use Rattle.reader.proofs.Each.{turn, stopped, ended}
+use Rattle.reader.proofs.Refused.{refused, fine_by, handed}
 use Rattle.reader.proofs.Turns.{instruction_there, instruction_on, instruction_off}
 use Rattle.reader.proofs.programs.instructions.Goals as goal
 
-pub returns-then-j-ne0 : goal.returns-then-j-ne0
+pub returns-in_err-next : goal.returns-in_err-next
 unfolding instructions_of
-returns-then-j-ne0 c =
+returns-in_err-next c =
     let l = c.loop-k in
-    stopped l.invariant (instruction_off _ l.j _ l.s _ _ l.k c.instruction-j.ensures c.if-j-ne0.true) (omega arith) c.if-j-ne0.true
+    let d = c.in_err-next.field-0.0 in
+    rw (handed c.from_residual.result d c.from_residual.ensures.1)
+    (stopped l.invariant (instruction_off _ l.at l.state _ _ l.k d c.in_err-next.ensures) (omega arith) (refused d))
 
-pub instruction_at-x-requires : goal.instruction_at-x-requires
-instruction_at-x-requires c = instruction_there _ _ _ _ (rw c.instruction-j.ensures at c.if-j-ne0.false)
+pub instruction_at-requires : goal.instruction_at-requires
+instruction_at-requires c = instruction_there _ _ _ _ (fine_by c.in_ok-next.ensures)
 
 pub loop-k-preserved : goal.loop-k-preserved
 loop-k-preserved c =
     let l = c.loop-k in
-    turn l.invariant (instruction_on _ l.j _ l.s _ _ l.k c.instruction-j.ensures c.if-j-ne0.false _ c.instruction_at-x.ensures) (omega arith) c.if-j-ne0.false
+    turn l.invariant (instruction_on _ l.at l.state _ _ l.k c.in_ok-next.next c.in_ok-next.ensures _ c.instruction_at.ensures) (omega arith) refl
 
 pub returns : goal.returns
 unfolding instructions_of

@@ -1,16 +1,20 @@
 -- Each turn judges one item.
-use Rattle.std.proofs.Common.{arith}
+use Rattle.std.proofs.Common.{arith, refl}
 use Rattle.reader.specs.Case.{items_judged}
 use Rattle.reader.proofs.Each.{turn, stopped, ended}
+use Rattle.reader.proofs.Refused.{refused, handed}
 use Rattle.reader.proofs.schedule.items.Goals as goal
 
-pub returns-then-j-ne0 : goal.returns-then-j-ne0
+pub returns-in_err-at : goal.returns-in_err-at
 unfolding items_judged
-returns-then-j-ne0 c = stopped c.loop-k.invariant c.item-j.ensures (omega arith) c.if-j-ne0.true
+returns-in_err-at c =
+    let l = c.loop in
+    let d = c.in_err-at.field-0.0 in
+    rw (handed c.from_residual.result d c.from_residual.ensures.1) (stopped l.invariant (c.in_err-at.ensures l.counter) (omega arith) (refused d))
 
-pub loop-k-preserved : goal.loop-k-preserved
-loop-k-preserved c = turn c.loop-k.invariant c.item-j.ensures (omega arith) c.if-j-ne0.false
+pub loop-preserved : goal.loop-preserved
+loop-preserved c = let l = c.loop in turn l.invariant (c.in_ok-at.ensures l.counter) (omega arith) refl
 
 pub returns : goal.returns
 unfolding items_judged
-returns c = ended c.loop-k.invariant (omega arith)
+returns c = ended c.loop.invariant (omega arith)

@@ -1,0 +1,50 @@
+-- The laws of Checked, one for each way out.
+use Rattle.std.proofs.Common.{◌≡◌, ◌≤◌, ◌<◌, ◌+◌, length, ap, ◌∙◌, sym, refl, arith, rules}
+use Rattle.reader.specs.Case.{refused_of}
+use Rattle.reader.proofs.Refused.{refused}
+use Rattle.discipline.proofs.Checked.{read_right, part_same, start_within, stop_there, runnable_read, items_read, checks_refused, checks_short_values, checks_short_memory, checks_whole, checks_stopped}
+use Rattle.discipline.proofs.Reasons.{reason_nonzero}
+use Rattle.discipline.proofs.check.check.Goals as goal
+use Rattle.discipline.proofs.check.check.Goals.{then-values-read-via-then-values-read, then-values-read-via-else-values-read+then-memory-cells}
+
+pub returns-in-Err : goal.returns-in-Err
+unfolding refused_of
+returns-in-Err c = rw (c.of.ensures, c.number.ensures) (checks_refused _ _ _ c.in-Err.ensures (refused c.in-Err.refusal))
+
+pub returns-then-values-read : goal.returns-then-values-read
+returns-then-values-read c =
+    elim c.then-values-read.branch [
+      then-values-read-via-then-values-read w ↦ checks_short_values _ _ _ c.in-Ok.ensures refl w.if-values-read.true c.of-then-values-read.ensures
+    | then-values-read-via-else-values-read+then-memory-cells w ↦ checks_short_memory _ _ _ c.in-Ok.ensures refl w.if-values-read.false w.if-memory-cells.true c.of-then-values-read.ensures
+    ]
+
+pub slice_bounds-ran-count : goal.slice_bounds-ran-count
+slice_bounds-ran-count c = start_within (read_right _ c.in-Ok.ensures refl)
+
+pub slice_bounds-ran-start : goal.slice_bounds-ran-start
+slice_bounds-ran-start c = start_within (read_right _ c.in-Ok.ensures refl)
+
+pub ran-ended-requires : goal.ran-ended-requires
+ran-ended-requires c =
+    let w = read_right _ c.in-Ok.ensures refl in
+    (runnable_read w, items_read w (part_same c.args.case.now c.in-Ok.read.start) c.args.values.now c.if-values-read.false)
+
+pub shared_ref_as_front-copy_from_slice : goal.shared_ref_as_front-copy_from_slice
+shared_ref_as_front-copy_from_slice c = (read_right _ c.in-Ok.ensures refl).in_range.cells
+
+pub overflow_add-read : goal.overflow_add-read
+overflow_add-read c =
+    let w = read_right _ c.in-Ok.ensures refl in
+    let h = stop_there w (part_same c.args.case.now c.in-Ok.read.start) c.ran-ended.ensures (rw c.in-Some.is (reason_nonzero c.in-Some.reason)) in
+    omega arith
+
+pub bounds-case-read : goal.bounds-case-read
+bounds-case-read c =
+    let w = read_right _ c.in-Ok.ensures refl in
+    stop_there w (part_same c.args.case.now c.in-Ok.read.start) c.ran-ended.ensures (rw c.in-Some.is (reason_nonzero c.in-Some.reason))
+
+pub returns-in-None : goal.returns-in-None
+returns-in-None c = rw c.of-in-None.ensures (checks_whole _ _ _ c.in-Ok.ensures refl c.if-values-read.false c.if-memory-cells.false (part_same c.args.case.now c.in-Ok.read.start) c.ran-ended.ensures (rw c.copy_from_slice.ensures.after refl) c.in-None.is)
+
+pub returns-in-Some : goal.returns-in-Some
+returns-in-Some c = rw c.from.ensures (checks_stopped _ _ _ c.in-Ok.ensures refl c.if-values-read.false c.if-memory-cells.false (part_same c.args.case.now c.in-Ok.read.start) c.ran-ended.ensures (rw c.copy_from_slice.ensures.after refl) c.in-Some.is c.thread.ensures)
