@@ -6,10 +6,8 @@ use mathlib.Core.List.{List}
 use native.Mathlib.Omega.{arith}
 use lib.ListN.{get_or-replicate}
 use borrow.Author.Tests.{eqb-true, eqb-false}
-use Rattle.reader.specs.Reading.{Judged}
+use Rattle.reader.specs.Reading.{Judged, Part, Reading}
 use Rattle.reader.specs.declared.state.State.{State}
-use Rattle.reader.specs.Reading.{Part}
-use Rattle.reader.specs.Reading.{Reading}
 use Rattle.reader.specs.Limits.{THREADS}
 use Rattle.reader.specs.Bytes.{byte}
 use Rattle.reader.specs.State.{no_queue, outside_queue, queue_of, fresh_of}

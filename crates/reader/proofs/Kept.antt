@@ -4,11 +4,10 @@ use mathlib.Core.Bool.{Bool, true, false}
 use mathlib.Core.Path.{◌≡◌, refl, ap}
 use mathlib.Core.List.{List, []}
 use lib.ListN.{length, length-set}
-use Rattle.reader.specs.Reading.{Judged}
+use Rattle.reader.specs.Reading.{Judged, Part}
 use Rattle.reader.specs.declared.bytes.Cell.{Cell}
 use Rattle.reader.specs.declared.state.Instruction.{Instruction}
 use Rattle.reader.specs.declared.state.State.{State}
-use Rattle.reader.specs.Reading.{Part}
 use Rattle.reader.specs.Rules.{pick}
 use Rattle.reader.specs.Bytes.{byte, cell_at, instruction_at}
 use Rattle.reader.specs.Limits.{INSTRUCTIONS}

@@ -1,13 +1,12 @@
 -- What a field that is fine holds, and that one turn of each loop of the reader is one field of the definition.
 use Prim.Native.Nat.{ℕ, ◌+◌, ◌≤◌, ◌<◌}
-use mathlib.Core.Path.{◌≡◌, ap, ◌∙◌}
+use mathlib.Core.Path.{◌≡◌}
 use mathlib.Core.List.{List}
 use native.Mathlib.Omega.{arith}
 use lib.Dec.{leb}
 use lib.ListN.{length}
 use borrow.Author.Tests.{ne_eqb}
 use Rattle.reader.specs.declared.refusal.Refusal.{Refusal}
-use Rattle.reader.specs.Reading.{Judged}
 use Rattle.reader.specs.declared.bytes.Cell.{Cell}
 use Rattle.reader.specs.declared.state.Instruction.{Instruction}
 use Rattle.reader.specs.declared.state.State.{State}
@@ -15,9 +14,9 @@ use Rattle.reader.specs.Bytes.{byte, pair_at, cell_at, instruction_at}
 use Rattle.reader.specs.Rules.{cell_bytes, cell_wrong, instruction_bytes, instruction_wrong, within}
 use Rattle.reader.specs.Limits.{INSTRUCTIONS, ITEMS}
 use Rattle.reader.specs.Case.{next, whole, count_judged, cell_judged, with_cell, cell_into, instruction_judged, with_instruction, instruction_into, with_count, instructions_of, program_into, item_count_judged, schedule_judged}
-use Rattle.reader.proofs.Fields.{refuses, then_fine, whole_fine, field_there, field_right, field_next}
+use Rattle.reader.proofs.Fields.{refuses, then_fine, whole_fine, field_there, field_right}
 use Rattle.reader.specs.Refusal.{refusal_of, part_at}
-use Rattle.reader.proofs.Refused.{refused, fine_by}
+use Rattle.reader.proofs.Refused.{refused}
 use Rattle.reader.proofs.Tests.{within_true}
 
 module _ (s : List ℕ) where
@@ -46,13 +45,6 @@ module _ (s : List ℕ) where
   pub item_count_there : (p : ℕ) → (item_count_judged s p).number ≡ 0 → p + 2 ≤ length s
   unfolding item_count_judged
   item_count_there p e = let h = field_there s 2 4 p (whole (leb (pair_at s p) ITEMS) 2) (refuses 3) e in omega arith
-
-  -- the items stand behind a count that is fine
-  pub item_count_on : (p q : ℕ) → next q ≡ item_count_judged s p → (q ≡ p + 2) × (p + 2 ≤ length s)
-  unfolding item_count_judged
-  item_count_on p q e =
-      let n = field_next s 2 4 p (whole (leb (pair_at s p) ITEMS) 2) (refuses 3) (fine_by e) in
-      (ap (λ (j : Judged). j.place) e ∙ n, item_count_there p (fine_by e))
 
   pub schedule_there : (threads p : ℕ) → (schedule_judged s threads p).number ≡ 0 → p + 2 ≤ length s
   unfolding schedule_judged

@@ -1,11 +1,9 @@
 -- A case, field by field from the front. "Order: 1, 2, 3, then fields front to back." The first field that is not as it should be refuses it.
 use Rattle.std.specs.Prelude.{ℕ, zero, suc, ◌+◌, ◌-◌, Bool, true, false, List, length, set, leb, eqb}
-use Rattle.reader.specs.Reading.{Judged}
+use Rattle.reader.specs.Reading.{Judged, Part, Reading}
 use Rattle.reader.specs.declared.bytes.Cell.{Cell}
 use Rattle.reader.specs.declared.state.Instruction.{Instruction}
 use Rattle.reader.specs.declared.state.State.{State}
-use Rattle.reader.specs.Reading.{Part}
-use Rattle.reader.specs.Reading.{Reading}
 use Rattle.reader.specs.Limits.{THREADS, CELLS, DEPTH, INSTRUCTIONS, ITEMS}
 use Rattle.reader.specs.State.{fresh_of, code_place, with_sizes, with_counts, with_code, with_memory, with_table}
 use Rattle.reader.specs.Bytes.{byte, pair_at, cell_at, instruction_at}

@@ -1,7 +1,8 @@
 // The cell records of a case, read into memory and the ownership table.
-ghost use Rattle.std.specs.Prelude.{◌≡◌, ◌≤◌};
+ghost use Rattle.std.specs.Prelude.{◌≡◌, ◌+◌, ◌≤◌, length, IfOk};
 ghost use Rattle.reader.specs.Limits.{CELLS};
 ghost use Rattle.reader.specs.Case.{cell_judged, cells_of};
+ghost use Rattle.reader.specs.Rules.{cell_bytes};
 ghost use Rattle.reader.specs.Refusal.{judged_of, part_of, part_at};
 
 use crate::refusal::{Fault, Refusal};
@@ -10,7 +11,8 @@ use crate::{bytes, field, rules};
 
 #[tactic(auto, unfolding(crate::specs::Case::cell_judged, crate::specs::Case::field, crate::specs::Case::verdict_of))]
 fn cell(case: &[u8], threads: usize, at: usize) -> Result<usize, Refusal>
-    ensures { judged_of result ≡ cell_judged case.now threads at }
+    ensures judged { judged_of result ≡ cell_judged case.now threads at }
+    ensures there { IfOk result (λ next. (next ≡ at + cell_bytes) × (next ≤ length case.now)) }
 {
     let next = field::end(case, at, rules::CELL_BYTES)?;
     let x = bytes::cell_at(case, at);
@@ -22,7 +24,8 @@ fn cell(case: &[u8], threads: usize, at: usize) -> Result<usize, Refusal>
 
 pub fn read(case: &[u8], state: &mut State, mut at: usize) -> Result<usize, Refusal>
     requires { state.old.cells ≤ CELLS }
-    ensures { part_of result state.new ≡ cells_of case.now (part_at at state.old) }
+    ensures read { part_of result state.new ≡ cells_of case.now (part_at at state.old) }
+    ensures kept { state.new.threads ≡ state.old.threads }
 {
     for c in 0..state.cells {
         let next = cell(case, state.threads, at)?;

@@ -1,7 +1,9 @@
 #![tactic(auto)]
 
 // The lowest layer: what a case is, and from bytes to the state that it starts. Nothing here knows how a thread steps.
-ghost use Rattle.std.specs.Prelude.{◌≡◌, ◌≤◌, length};
+ghost use Rattle.std.specs.Prelude.{◌≡◌, ◌+◌, ◌≤◌, length, IfOk};
+ghost use Rattle.reader.specs.Limits.{THREADS, CELLS};
+ghost use Rattle.reader.specs.Bytes.{byte};
 ghost use Rattle.reader.specs.Case.{front_judged, sizes_judged, sized_of, read_of};
 ghost use Rattle.reader.specs.Refusal.{judged_of, reading_of};
 
@@ -46,7 +48,8 @@ fn front(case: &[u8]) -> Result<usize, Refusal>
 // Threads, cells and depth.
 #[tactic(auto, unfolding(crate::specs::Case::sizes_judged))]
 fn sizes(case: &[u8]) -> Result<usize, Refusal>
-    ensures { judged_of result ≡ sizes_judged case.now }
+    ensures judged { judged_of result ≡ sizes_judged case.now }
+    ensures there { IfOk result (λ _. (6 ≤ length case.now) × (byte case.now 3 ≤ THREADS) × (byte case.now 4 ≤ CELLS)) }
 {
     field::count(case, 1, State::THREADS, 3)?;
     field::count(case, 1, State::CELLS, 4)?;

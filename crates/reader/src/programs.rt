@@ -1,7 +1,8 @@
 // The threads' programs, read into the state's code.
-ghost use Rattle.std.specs.Prelude.{◌≡◌, ◌≤◌, ◌<◌};
+ghost use Rattle.std.specs.Prelude.{◌≡◌, ◌+◌, ◌≤◌, ◌<◌, length, IfOk};
 ghost use Rattle.reader.specs.Limits.{THREADS, INSTRUCTIONS};
 ghost use Rattle.reader.specs.Case.{instruction_judged, instructions_of, program_into, programs_of};
+ghost use Rattle.reader.specs.Rules.{instruction_bytes};
 ghost use Rattle.reader.specs.Refusal.{judged_of, part_of, part_at};
 
 use crate::refusal::{Fault, Refusal};
@@ -10,7 +11,8 @@ use crate::{bytes, field, rules};
 
 #[tactic(auto, unfolding(crate::specs::Case::instruction_judged, crate::specs::Case::field, crate::specs::Case::verdict_of))]
 fn instruction(case: &[u8], cells: usize, count: usize, at: usize) -> Result<usize, Refusal>
-    ensures { judged_of result ≡ instruction_judged case.now cells count at }
+    ensures judged { judged_of result ≡ instruction_judged case.now cells count at }
+    ensures there { IfOk result (λ next. (next ≡ at + instruction_bytes) × (next ≤ length case.now)) }
 {
     let next = field::end(case, at, rules::INSTRUCTION_BYTES)?;
     match rules::instruction_wrong(cells, count, bytes::instruction_at(case, at)) {
@@ -39,6 +41,7 @@ fn instructions(
 }
 
 // One thread's program: its count, then its instructions.
+#[tactic(auto, unfolding(crate::specs::Case::program_into))]
 fn program(case: &[u8], state: &mut State, t: usize, at: usize) -> Result<usize, Refusal>
     requires { t < THREADS }
     ensures { part_of result state.new ≡ program_into case.now t (part_at at state.old) }

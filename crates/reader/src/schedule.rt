@@ -44,7 +44,8 @@ fn count(case: &[u8], at: usize) -> Result<usize, Refusal>
 // The count, the items, and that nothing is left over.
 #[tactic(auto, unfolding(crate::specs::Case::schedule_judged))]
 pub fn judge(case: &[u8], threads: usize, at: usize) -> Result<usize, Refusal>
-    ensures { judged_of result ≡ schedule_judged case.now threads at }
+    ensures judged { judged_of result ≡ schedule_judged case.now threads at }
+    ensures there { IfOk result (λ _. at + 2 ≤ length case.now) }
 {
     let first = count(case, at)?;
     let end = items(case, threads, bytes::pair_at(case, at), first)?;
