@@ -1,8 +1,7 @@
 use Rattle.std.proofs.Common.{rules}
 use Rattle.stepping.specs.Range.{cell_fits}
 use Rattle.stepping.proofs.All.{below_from_range}
-use Rattle.stepping.proofs.Tests.{none_is_right}
 use Rattle.stepping.proofs.range.cells_fit.Goals as goal
 
 pub returns : goal.returns
-returns c = below_from_range (cell_fits c.args.s.now) _ c.all.ensures.ran (λ k b q e. search (rules, none_is_right))
+returns c = below_from_range (cell_fits c.args.s.now) _ c.all.ensures.ran (λ k b q e. search rules)
