@@ -53,7 +53,7 @@ fn answered(number: u32, item: u8) -> Answer
 pub fn stepped(s: State, item: u8) -> After
     ensures { result ≡ stepped_of s item }
 {
-    if !range::is_in_range(s) {
+    if !range::is_in_range(&s) {
         return kept(s, 10);
     }
     if !rules::item_fits(s.threads, item as usize) {
