@@ -1,11 +1,14 @@
 -- The stepping call: what it answers and what it leaves of the lent state, for every state whatsoever and every item byte.
-use Rattle.std.specs.Prelude.{ℕ, Bool, ◌≡◌, eqb}
+use Rattle.std.specs.Prelude.{ℕ, Result, Ok, Err, Bool, ◌≡◌, eqb}
 use Rattle.reader.specs.declared.state.State.{State}
 use Rattle.reader.specs.Rules.{pick, item_fits}
 use Rattle.discipline.specs.declared.check.Answer.{Answer}
 use Rattle.discipline.specs.Check.{answer, thread_of}
 use Rattle.discipline.specs.Step.{checked_of}
+use Rattle.discipline.specs.Reason.{number_of}
 use Rattle.stepping.specs.declared.step.After.{After}
+use Rattle.stepping.specs.declared.step.Refusal.{Refusal}
+use Rattle.stepping.specs.declared.step.Refusal.TheVariants.{OutOfRange, NoItem, Stopped}
 use Rattle.stepping.specs.Range.{in_range_of}
 use Rattle.machine.specs.Run.{Outcome}
 
@@ -30,6 +33,13 @@ stepped_of s x =
     need (in_range_of s) 10 s
     (need (item_fits s.threads x) 8 s
     (carried_of (checked_of s x) x))
+
+-- the answer to an item: it was taken, or why it was not
+abbrev pub answer_to : ℕ → Result (Unit {0}) Refusal → Answer
+answer_to x (Ok done) = answered_of 0 x
+answer_to x (Err OutOfRange) = answer 10 0 0
+answer_to x (Err NoItem) = answer 8 0 0
+answer_to x (Err (Stopped reason)) = answered_of (number_of reason) x
 
 -- what a call on a lent state gives, and leaves of it
 pub record Steps (s : State) (x : ℕ) (r : Answer) (s' : State) : Type 0 where

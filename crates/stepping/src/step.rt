@@ -1,12 +1,33 @@
 // The stepping call by value: a state and an item byte, whatever they hold. 10 first, then 8, then as a run of that one item.
 ghost use Rattle.std.specs.Prelude.{◌≡◌};
-ghost use Rattle.stepping.specs.Step.{kept_of, answered_of, stepped_of};
+ghost use Rattle.stepping.specs.Step.{answer_to, stepped_of};
+ghost use Rattle.stepping.specs.declared.step.Refusal.TheVariants.{Stopped};
 
 use crate::range;
+use discipline::breach::Reason;
 use discipline::check::Answer;
 use discipline::{check, step};
 use reader::rules;
 use reader::state::State;
+
+// Why an item is not taken.
+#[derive(Clone, Copy, Debug, PartialEq, Eq)]
+pub enum Refusal {
+    // The lent state is out of range.
+    OutOfRange,
+    // The byte is no item of the state's threads.
+    NoItem,
+    // The checked machine stops it.
+    Stopped(Reason),
+}
+
+impl From<Reason> for Refusal {
+    ghost from_gives = { λ reason refusal. refusal ≡ Stopped reason };
+
+    fn from(reason: Reason) -> Self {
+        Refusal::Stopped(reason)
+    }
+}
 
 // The answer, and the state after the call: the one that was lent, unless the number is 0.
 #[derive(Clone, Copy)]
@@ -15,55 +36,41 @@ pub struct After {
     pub answer: Answer,
 }
 
-// 10 and 8: the state as it was.
-fn kept(s: State, number: u32) -> After
-    ensures { result ≡ kept_of s number }
-{
-    let answer = Answer {
-        place: 0,
-        number: number,
-        thread: 0,
-    };
-    After {
-        state: s,
-        answer: answer,
-    }
-}
-
 // Place and thread of an item that was taken, or not.
 #[tactic(auto, unfolding(crate::specs::Step::answered_of))]
-fn answered(number: u32, item: u8) -> Answer
-    ensures { result ≡ answered_of number item }
+fn answered(item: u8, taken: Result<(), Refusal>) -> Answer
+    ensures { result ≡ answer_to item taken }
 {
-    if number == 0 {
-        return Answer {
-            place: 1,
-            number: 0,
-            thread: 0,
-        };
-    }
-    Answer {
-        place: 0,
-        number: number,
-        thread: check::thread(item),
+    match taken {
+        Ok(()) => Answer::of(0, 1),
+        Err(Refusal::OutOfRange) => Answer::of(10, 0),
+        Err(Refusal::NoItem) => Answer::of(8, 0),
+        Err(Refusal::Stopped(reason)) => Answer {
+            place: 0,
+            number: u32::from(reason),
+            thread: check::thread(item),
+        },
     }
 }
 
-#[tactic(auto, unfolding(crate::specs::Step::stepped_of))]
+// The item on the state, in place.
+fn take(s: &mut State, item: u8) -> Result<(), Refusal>
+    ensures { record { answer = answer_to item result; state = s.new } ≡ stepped_of s.old item }
+{
+    if !range::is_in_range(s) {
+        return Err(Refusal::OutOfRange);
+    }
+    if !rules::item_fits(s.threads, usize::from(item)) {
+        return Err(Refusal::NoItem);
+    }
+    step::stepped(s, item)?;
+    Ok(())
+}
+
 pub fn stepped(s: State, item: u8) -> After
     ensures { result ≡ stepped_of s item }
 {
-    if !range::is_in_range(&s) {
-        return kept(s, 10);
-    }
-    if !rules::item_fits(s.threads, item as usize) {
-        return kept(s, 8);
-    }
-    let o = step::stepped(s, item);
-    let state = o.state;
-    let answer = answered(o.number, item);
-    After {
-        state: state,
-        answer: answer,
-    }
+    let mut state = s;
+    let answer = answered(item, take(&mut state, item));
+    After { state, answer }
 }
