@@ -1,4 +1,4 @@
--- What the tests of the code say, as the definitions say it, and what a test that holds says of its parts.
+-- What a test of two parts says of each, and what makes a test hold.
 use Prim.Native.Nat.{ℕ, ◌≤◌}
 use mathlib.Core.Bool.{Bool, true, false, ◌&&◌}
 use mathlib.Core.Path.{◌≡◌, refl}
