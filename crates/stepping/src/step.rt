@@ -1,5 +1,6 @@
 // The stepping call by value: a state and an item byte, whatever they hold. 10 first, then 8, then as a run of that one item.
 ghost use Rattle.std.specs.Prelude.{◌≡◌};
+ghost use Rattle.reader.specs.Range.{Shaped};
 ghost use Rattle.stepping.specs.Step.{answer_to, stepped_of};
 ghost use Rattle.stepping.specs.declared.step.Refusal.TheVariants.{Stopped};
 
@@ -55,6 +56,7 @@ fn answered(item: u8, taken: Result<(), Refusal>) -> Answer
 
 // The item on the state, in place.
 fn take(s: &mut State, item: u8) -> Result<(), Refusal>
+    requires { Shaped s.old }
     ensures { record { answer = answer_to item result; state = s.new } ≡ stepped_of s.old item }
 {
     if !range::is_in_range(s) {
