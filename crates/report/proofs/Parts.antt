@@ -1,5 +1,5 @@
 -- A text that is put part by part.
-use Rattle.std.proofs.Common.{ℕ, suc, ◌+◌, ◌-◌, ◌≤◌, ◌≡◌, refl, sym, ap, ◌∙◌, List, [], ◌∷◌, ◌++◌, length, arith, add-zero, zero-add, length-append, append_assoc, drop-drop, take}
+use Rattle.std.proofs.Common.{ℕ, suc, ◌+◌, ◌-◌, ◌≤◌, ◌≡◌, sym, ap, ◌∙◌, List, [], ◌∷◌, ◌++◌, length, arith, add-zero, zero-add, length-append, append_assoc, drop-drop, take}
 use Rattle.std.proofs.lemmas.List.Edits.{sets, sets-eq}
 use lib.Seq.{length-sets}
 use borrow.Rule.Slice.PartMut.{put_mid}

@@ -1,6 +1,6 @@
 -- The smallest number's text.
 use Rattle.std.proofs.Common.{◌≡◌, ◌∙◌, refl, [], ◌∷◌, negsuc}
-use Rattle.std.specs.Fmt.{digits, signed_decimal}
+use Rattle.std.specs.Fmt.{digits}
 use Rattle.std.proofs.Math.Facts.{sfits_lit}
 use Rattle.report.specs.Text.{signed}
 use Rattle.report.proofs.Decimal.{signed_is_decimal}

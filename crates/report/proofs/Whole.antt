@@ -1,8 +1,8 @@
 -- The whole report: the line of the answer alone, or with those of the lists.
-use Rattle.std.proofs.Common.{ℕ, ◌≤◌, ◌≡◌, true, false, List, append-nil, ℤ, length, Fits, w32, w64, arith}
+use Rattle.std.proofs.Common.{ℕ, ◌≡◌, true, false, List, append-nil, ℤ, Fits, w32, w64, arith}
 use Rattle.report.specs.declared.page.Page.{Page}
 use Rattle.report.specs.Text.{answer_line, has_run, lists, report}
-use Rattle.report.specs.Puts.{Fitting, Puts, Leaves, PutsWithin, Fronts}
+use Rattle.report.specs.Puts.{Fitting, Puts, Leaves, PutsWithin}
 use Rattle.report.specs.Room.{lists_room, report_room}
 use Rattle.report.proofs.Parts.{both, same_size}
 use Rattle.report.proofs.Lengths.{answer_length}

@@ -2,7 +2,7 @@
 
 // The program's output as text in a lent buffer: a line for the answer and, where the case ran, one for the values and one for the memory.
 ghost use Rattle.std.specs.Prelude.{◌≡◌, ◌≤◌, length};
-ghost use Rattle.report.specs.Text.{report as Text·report};
+ghost use Rattle.report.specs.Text.{report};
 ghost use Rattle.report.specs.Room.{report_room};
 ghost use Rattle.report.specs.Puts.{Fronts};
 
@@ -28,9 +28,9 @@ pub fn report(
     out: &mut [u8],
 ) -> usize
     requires { report_room values.now memory.now ≤ length out.old }
-    ensures { Fronts (Text·report number place thread cells values.now memory.now) out.old result out.new }
+    ensures { Fronts (report number place thread cells values.now memory.now) out.old result out.new }
 {
     let mut page = Page::new(out);
     page.report(number, place, thread, cells, values, memory);
-    page.length()
+    page.len()
 }

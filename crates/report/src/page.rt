@@ -1,6 +1,7 @@
-// A page of text in a lent buffer, written from the front on.
+// A page of text in a lent buffer, written from the front on. Not by `write!`: the library does not say that what it calls succeeds where every
+// `write_str` does, and a report cannot fail.
 ghost use Rattle.std.specs.Prelude.{◌≡◌, ◌≤◌, length, take};
-ghost use Rattle.report.specs.Text.{answer_line, has_run, line as Text·line, lists as Text·lists, named as Text·named, natural as Text·natural, report as Text·report, signed as Text·signed};
+ghost use Rattle.report.specs.Text.{answer_line, has_run, line, lists, named, natural, report, signed};
 ghost use Rattle.report.specs.Puts.{Fitting, Puts, Leaves, PutsWithin};
 ghost use Rattle.report.specs.Room.{line_room, lists_room, report_room};
 
@@ -23,7 +24,7 @@ impl<'a> Page<'a> {
     }
 
     // How many bytes are written.
-    pub fn length(&self) -> usize
+    pub fn len(&self) -> usize
         ensures { result ≡ self.now.at }
     {
         self.at
@@ -40,7 +41,7 @@ impl<'a> Page<'a> {
         memory: &[i32],
     )
         requires { Leaves self.old (report_room values.now memory.now) }
-        ensures { PutsWithin (Text·report number place thread cells values.now memory.now) (report_room values.now memory.now) self.old self.new }
+        ensures { PutsWithin (report number place thread cells values.now memory.now) (report_room values.now memory.now) self.old self.new }
     {
         self.answer(number, place, thread);
         if has_run(number) {
@@ -48,7 +49,6 @@ impl<'a> Page<'a> {
         }
     }
 
-    #[tactic(auto, unfolding(crate::specs::Text::answer_line), using(crate::proofs::Parts::both, crate::proofs::Parts::first_fits, crate::proofs::Parts::next_fits))]
     fn answer(&mut self, number: u32, place: usize, thread: u32)
         requires { Fitting self.old (answer_line number place thread) }
         ensures { Puts (answer_line number place thread) self.old self.new }
@@ -60,10 +60,9 @@ impl<'a> Page<'a> {
     }
 
     // The line of the values, as many as the place says, and that of the memory.
-    #[tactic(auto, unfolding(crate::specs::Text::lists), using(crate::proofs::Parts::both, crate::proofs::Parts::first_fits, crate::proofs::Parts::next_fits))]
     fn lists(&mut self, place: usize, cells: usize, values: &[i32], memory: &[i32])
         requires { Leaves self.old (lists_room values.now memory.now) }
-        ensures { PutsWithin (Text·lists place cells values.now memory.now) (lists_room values.now memory.now) self.old self.new }
+        ensures { PutsWithin (lists place cells values.now memory.now) (lists_room values.now memory.now) self.old self.new }
     {
         self.line("values", first(values, place));
         self.line("memory", first(memory, cells));
@@ -72,7 +71,7 @@ impl<'a> Page<'a> {
     // A word, and each number after one blank.
     fn line(&mut self, word: &str, numbers: &[i32])
         requires { Leaves self.old (line_room word.now numbers.now) }
-        ensures { PutsWithin (Text·line word.now numbers.now) (line_room word.now numbers.now) self.old self.new }
+        ensures { PutsWithin (line word.now numbers.now) (line_room word.now numbers.now) self.old self.new }
     {
         self.text(word);
         for number in numbers {
@@ -83,25 +82,27 @@ impl<'a> Page<'a> {
     }
 
     // A word and a number behind it.
-    #[tactic(auto, unfolding(crate::specs::Text::named), using(crate::proofs::Parts::both, crate::proofs::Parts::first_fits, crate::proofs::Parts::next_fits))]
+    #[tactic(auto, unfolding(crate::specs::Text::named), using(crate::proofs::Parts::first_fits, crate::proofs::Parts::next_fits))]
     fn named(&mut self, word: &str, n: u64)
-        requires { Fitting self.old (Text·named word.now n) }
-        ensures { Puts (Text·named word.now n) self.old self.new }
+        requires { Fitting self.old (named word.now n) }
+        ensures { Puts (named word.now n) self.old self.new }
     {
         self.text(word);
         self.natural(n);
     }
 
+    #[tactic(auto, using(crate::proofs::Decimal::natural_is_decimal))]
     fn natural(&mut self, n: u64)
-        requires { Fitting self.old (Text·natural n) }
-        ensures { Puts (Text·natural n) self.old self.new }
+        requires { Fitting self.old (natural n) }
+        ensures { Puts (natural n) self.old self.new }
     {
         self.text(Buffer::new().format(n));
     }
 
+    #[tactic(auto, using(crate::proofs::Decimal::signed_is_decimal))]
     fn signed(&mut self, x: i32)
-        requires { Fitting self.old (Text·signed x) }
-        ensures { Puts (Text·signed x) self.old self.new }
+        requires { Fitting self.old (signed x) }
+        ensures { Puts (signed x) self.old self.new }
     {
         self.text(Buffer::new().format(x));
     }
