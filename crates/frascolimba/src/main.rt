@@ -6,5 +6,5 @@
 fn main() {
     let mut input = io::large_buffer();
     let n = io::read_full(0, &mut input);
-    judge::told(&input[0..n]);
+    judge::told(&input[..n]);
 }

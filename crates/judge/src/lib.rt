@@ -19,25 +19,22 @@ pub const SIZE: usize = report::ANSWER_BYTES
 fn cells(case: &[u8]) -> usize
     ensures { result ≡ byte case.now 4 }
 {
-    if 4 < case.len() {
-        return usize::from(case[4]);
-    }
-    0
+    case.get(4).map_or(0, |count| usize::from(*count))
 }
 
 // The report of a case, at the front of the buffer; gives back how long it is. The lists are lent for the check, and hold its values and
 // memory afterwards.
+#[tactic(auto, unfolding(crate::specs::Output::output_of))]
 pub fn judged(case: &[u8], values: &mut [i32], memory: &mut [i32], out: &mut [u8]) -> usize
     requires { report_room values.old memory.old ≤ length out.old }
     ensures { Fronts (output_of case.now values.old memory.old) out.old result out.new }
 {
     let answer = check::check(case, values, memory);
-    let n = cells(case);
     report::report(
         answer.number,
         answer.place,
         answer.thread,
-        n,
+        cells(case),
         values,
         memory,
         out,
@@ -50,5 +47,5 @@ pub fn told(case: &[u8]) {
     let mut memory = [0i32; State::CELLS];
     let mut out = [0u8; SIZE];
     let end = judged(case, &mut values, &mut memory, &mut out);
-    io::write_all(1, &out[0..end]);
+    io::write_all(1, &out[..end]);
 }

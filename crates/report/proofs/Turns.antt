@@ -1,52 +1,63 @@
--- A loop that puts the texts of a list's elements, one behind the other.
-use Prim.Native.Nat.{ℕ, ◌+◌, ◌≤◌, ◌<◌}
-use mathlib.Core.Path.{◌≡◌, refl, sym, ap, ◌∙◌}
-use mathlib.Core.List.{List, [], ◌∷◌, ◌++◌, append_assoc, append-nil}
-use native.Mathlib.Omega.{arith}
-use native.Mathlib.Numerals.{add-one}
-use lib.ListN.{length, take, drop, get_or, take-append-drop}
-use lib.Seq.{take-suc, take-take, take_all}
-use Rattle.report.specs.Text.{texts}
-use Rattle.report.specs.Puts.{Fitting, Puts}
-use Rattle.report.proofs.Parts.{nothing, both, next_fits, first_fits}
+-- A loop that puts the numbers of a line, each after one blank. Each takes its share of the room at most.
+use Rattle.std.proofs.Common.{ℕ, ◌+◌, ◌*◌, ◌<◌, ◌≤◌, ◌≡◌, refl, List, [], ◌∷◌, ◌++◌, ℤ, pos, length, take, get_or, FitsSigned, w32, append_assoc, append-nil, arith, add-one}
+use lib.Seq.{take-suc, take_all}
+use Rattle.report.specs.declared.page.Page.{Page}
+use Rattle.report.specs.Text.{blank, newline, signed, item, texts, items, line}
+use Rattle.report.specs.Puts.{Fitting, Puts, Leaves, PutsWithin}
+use Rattle.report.specs.Room.{ITEM_BYTES, line_room}
+use Rattle.report.proofs.Parts.{both, same_size}
+use Rattle.report.proofs.Lengths.{signed_length}
 
--- bytes that are put one by one
-pub one_by_one : (s : List ℕ) → texts (λ b. b ∷ []) s ≡ s
+texts_append : {A : Type 0} (f : A → List ℕ) (xs ys : List A) → texts f (xs ++ ys) ≡ texts f xs ++ texts f ys
 unfolding texts
-one_by_one [] = refl
-one_by_one (b ∷ s) = rw (one_by_one s)
+texts_append f [] ys = refl
+texts_append f (x ∷ xs) ys = rw (texts_append f xs ys, append_assoc)
 
-module _ {A : Type 0} (f : A → List ℕ) (d : A) where
-  texts_append : (xs ys : List A) → texts f (xs ++ ys) ≡ texts f xs ++ texts f ys
-  unfolding texts
-  texts_append [] ys = refl
-  texts_append (x ∷ xs) ys = rw (texts_append xs ys, append_assoc)
+items_one : (x : ℤ) → items (x ∷ []) ≡ item x
+unfolding texts
+items_one x = append-nil (item x)
 
-  texts_one : (x : A) → texts f (x ∷ []) ≡ f x
-  unfolding texts
-  texts_one x = append-nil (f x)
+-- the first k numbers and the next one
+items_more : (xs : List ℤ) (k : ℕ) → k < length xs → items (take (k + 1) xs) ≡ items (take k xs) ++ item (get_or xs k (pos 0))
+items_more xs k h = rw (add-one, take-suc xs k (pos 0) h, texts_append, items_one)
 
-  texts_more : (xs : List A) (k : ℕ) → k < length xs → texts f (take (k + 1) xs) ≡ texts f (take k xs) ++ f (get_or xs k d)
-  texts_more xs k h = rw (add-one, take-suc xs k d h, texts_append, texts_one)
+-- the word and the first k numbers are put
+abbrev pub PutFirst : List ℕ → List ℤ → ℕ → Page → Page → Type 0
+PutFirst word xs k start page = PutsWithin (word ++ items (take k xs)) (length word + ITEM_BYTES * k) start page
 
-  -- the first n elements: the first k of them, the next one and the others
-  texts_split : (xs : List A) (k n : ℕ) → k < n → k < length xs → texts f (take n xs) ≡ texts f (take k xs) ++ (f (get_or xs k d) ++ texts f (drop (k + 1) (take n xs)))
-  texts_split xs k n h l =
-      ap (texts f) (sym (take-append-drop (k + 1) (take n xs)))
-      ∙ texts_append (take (k + 1) (take n xs)) (drop (k + 1) (take n xs))
-      ∙ rw (take-take (k + 1) n xs (omega arith), texts_more xs k l, append_assoc)
+module _ (word : List ℕ) (xs : List ℤ) (k : ℕ) (start page : Page) (p : PutFirst word xs k start page) where
+  module _ (h : k < length xs) (mid : Page) (q : Puts (blank ∷ []) page mid) (f : FitsSigned w32 (get_or xs k (pos 0))) where
+    pub number_fits : Leaves start (line_room word xs) → Fitting mid (signed (get_or xs k (pos 0)))
+    number_fits l =
+        let a = l.leaves in
+        let b = p.within in
+        let n = same_size p.puts in
+        let e = q.ends in
+        let m = same_size q in
+        let s = signed_length _ f in
+        record { fitting = omega arith }
 
-  pub start : (xs : List A) (out : List ℕ) (at : ℕ) → Puts (texts f (take 0 xs)) out at at out
-  unfolding texts
-  start xs out at = nothing out at
+    pub turn : (after : Page) → Puts (signed (get_or xs k (pos 0))) mid after → PutFirst word xs (k + 1) start after
+    unfolding item
+    turn after r =
+        let b = p.within in
+        let d = q.ends in
+        let e = r.ends in
+        let s = signed_length _ f in
+        record { puts = rw (items_more xs k h, ← append_assoc) (both p.puts (both q r)); within = omega arith }
 
-  module _ (xs : List A) (k n : ℕ) {out₀ out : List ℕ} {at to : ℕ} (p : Puts (texts f (take k xs)) out₀ at to out) where
-    pub turn_fits : k < n → k < length xs → Fitting out₀ at (texts f (take n xs)) → Fitting out to (f (get_or xs k d))
-    turn_fits h l r = first_fits (f (get_or xs k d)) (texts f (drop (k + 1) (take n xs))) (next_fits (rw (texts_split xs k n h l) at r) p)
+  -- a blank, or the newline behind the last number
+  pub byte_fits : (b : ℕ) → k ≤ length xs → Leaves start (line_room word xs) → Fitting page (b ∷ [])
+  byte_fits b h l =
+      let a = l.leaves in
+      let w = p.within in
+      let n = same_size p.puts in
+      record { fitting = omega arith }
 
-    pub turn : k < length xs → {end : ℕ} {out' : List ℕ} → Puts (f (get_or xs k d)) out to end out' → Puts (texts f (take (k + 1) xs)) out₀ at end out'
-    turn l q = rw (texts_more xs k l) (both p q)
-
-    -- the list ends before its n-th element
-    pub ended : length xs ≤ k → k ≤ n → Puts (texts f (take n xs)) out₀ at to out
-    ended l h = rw (take_all n xs (omega arith)) (rw (take_all k xs l) at p)
+  pub ended : length xs ≡ k → Leaves start (line_room word xs) → (after : Page) → Puts (newline ∷ []) page after → PutsWithin (line word xs) (line_room word xs) start after
+  unfolding line
+  ended h l after q =
+      let w = p.within in
+      let e = q.ends in
+      let t : take k xs ≡ xs = take_all k xs (omega arith) in
+      record { puts = rw append_assoc at (both (rw t at p.puts) q); within = omega arith }

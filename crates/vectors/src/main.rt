@@ -2,31 +2,39 @@
 
 // The program: judges every case of a bundle on standard input and writes their reports to standard output, one behind the other.
 // A bundle is any number of cases, each behind its length in four bytes.
-ghost use Rattle.std.specs.Prelude.{◌≤◌, false, ◌≡◌};
+ghost use Rattle.std.specs.Prelude.{◌≤◌};
 
 mod prefix;
 
 // Every loop has to end, whatever is read; no file holds so many cases.
-const MOST_CASES: u32 = 4294967295;
+const MOST_CASES: u32 = u32::MAX;
 
-// Says why nothing more is judged. The reports that are missing then tell the rest.
-fn cut_short() -> bool
-    ensures { result ≡ false }
-{
-    io::write_all(2, b"vectors: the bundle is cut short\n");
-    false
+// The input ends within a case or its length.
+struct CutShort;
+
+// The length of the next case; none where the bundle ends.
+fn next_length() -> Result<Option<usize>, CutShort> {
+    let mut head = [0u8; 4];
+    match io::read_full(0, &mut head) {
+        0 => Ok(None),
+        4 => Ok(Some(prefix::length(&head))),
+        _ => Err(CutShort),
+    }
 }
 
-// Reads some of so many bytes, and keeps none of them. Gives back how many; none at the end of the input.
-fn dropped(left: usize) -> usize
-    ensures { result ≤ left }
-{
-    let mut scratch = io::buffer();
-    let n = prefix::least(left, 4096);
-    io::read_full(0, &mut scratch[0..n])
+// Judges the first bytes of a case that is so long, as many as the program on standard input looks at, and goes on behind the others.
+fn judge_next(length: usize) -> Result<(), CutShort> {
+    let mut input = io::large_buffer();
+    let seen = prefix::seen(length);
+    if io::read_full(0, &mut input[..seen]) < seen {
+        return Err(CutShort);
+    }
+    judge::told(&input[..seen]);
+    pass_over(length - seen);
+    Ok(())
 }
 
-// Goes on behind so many bytes.
+// Goes on behind so many bytes, or to the end of the input.
 fn pass_over(bytes: usize) {
     let mut left = bytes;
     while left > 0 {
@@ -38,44 +46,28 @@ fn pass_over(bytes: usize) {
     }
 }
 
-// Judges a case that is as long as what is lent. Gives back whether it was there whole.
-fn judged(case: &mut [u8]) -> bool {
-    let n = io::read_full(0, case);
-    if n < case.len() {
-        return cut_short();
-    }
-    judge::told(case);
-    true
+// Reads some of so many bytes, and keeps none of them. Gives back how many; none at the end of the input.
+fn dropped(left: usize) -> usize
+    ensures { result ≤ left }
+{
+    let mut scratch = io::buffer();
+    let most = left.min(scratch.len());
+    io::read_full(0, &mut scratch[..most])
 }
 
-// Judges the first bytes of a case that is so long, as many as the program on standard input looks at.
-fn judged_first(length: usize) -> bool {
-    let mut input = io::large_buffer();
-    let seen = prefix::seen(length);
-    let whole = judged(&mut input[0..seen]);
-    pass_over(length - seen);
-    whole
+fn judge_all() -> Result<(), CutShort> {
+    for _ in 0..MOST_CASES {
+        let Some(length) = next_length()? else {
+            break;
+        };
+        judge_next(length)?;
+    }
+    Ok(())
 }
 
-// Judges the next case. Gives back whether there was one.
-fn next() -> bool {
-    let mut head = [0u8; 4];
-    let n = io::read_full(0, &mut head);
-    if n == 0 {
-        return false;
-    }
-    if n < 4 {
-        return cut_short();
-    }
-    judged_first(prefix::length(&head))
-}
-
+// Where the bundle is cut short, the reports that are missing tell the rest.
 fn main() {
-    let mut left = MOST_CASES;
-    while left > 0 {
-        if !next() {
-            return;
-        }
-        left -= 1;
+    if let Err(CutShort) = judge_all() {
+        io::write_all(2, b"vectors: the bundle is cut short\n");
     }
 }

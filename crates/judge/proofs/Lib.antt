@@ -1,2 +1,0 @@
--- The law that joins the check and the report.
-pub mod Joined
