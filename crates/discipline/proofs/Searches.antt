@@ -42,6 +42,7 @@ module _ (qs : List Queue) (t c : ℕ) where
       later : (b : Bool) → elsewhere_of qs n t c ≡ true → pick b true (elsewhere_of qs n t c) ≡ true
       later true e = refl
       later false e = e
+
       go : Dec (u ≡ n) → (u < n → pends_with qs t c u ≡ true → elsewhere_of qs n t c ≡ true) → pick (pends_with qs t c n) true (elsewhere_of qs n t c) ≡ true
       go (yes z) f = rw (← z, p) refl
       go (no z) f = later (pends_with qs t c n) (f (omega arith) p)

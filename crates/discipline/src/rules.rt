@@ -79,7 +79,11 @@ pub fn allowed(s: &State, t: usize, h: Held, next: Next) -> Result<(), Breach>
     match next.action {
         Action::Read { .. } => load(t, h),
         Action::Store { .. } | Action::Swap { .. } => store(t, h),
-        Action::Acquire { .. } => acquire(t, h, elsewhere::is_elsewhere(s, t, u32::from(next.instruction.cell))),
+        Action::Acquire { .. } => acquire(
+            t,
+            h,
+            elsewhere::is_elsewhere(s, t, u32::from(next.instruction.cell)),
+        ),
         Action::Release { .. } => release(t, h, &s.queues[t]),
         Action::Fence | Action::Silent { .. } | Action::End => Ok(()),
     }

@@ -14,8 +14,8 @@ returns-in-Err c = rw (c.of.ensures, c.number.ensures) (checks_refused _ _ _ c.i
 pub returns-then-values-read : goal.returns-then-values-read
 returns-then-values-read c =
     elim c.then-values-read.branch [
-      then-values-read-via-then-values-read w ↦ checks_short_values _ _ _ c.in-Ok.ensures refl w.if-values-read.true c.of-then-values-read.ensures
-    | then-values-read-via-else-values-read+then-memory-cells w ↦ checks_short_memory _ _ _ c.in-Ok.ensures refl w.if-values-read.false w.if-memory-cells.true c.of-then-values-read.ensures
+      | then-values-read-via-then-values-read w ↦ checks_short_values _ _ _ c.in-Ok.ensures refl w.if-values-read.true c.of-then-values-read.ensures
+      | then-values-read-via-else-values-read+then-memory-cells w ↦ checks_short_memory _ _ _ c.in-Ok.ensures refl w.if-values-read.false w.if-memory-cells.true c.of-then-values-read.ensures
     ]
 
 pub slice_bounds-ran-count : goal.slice_bounds-ran-count

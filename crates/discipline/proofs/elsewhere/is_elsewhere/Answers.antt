@@ -17,6 +17,6 @@ loop-u-preserved c =
     let qs = c.args.s.now.queues in
     none_more qs c.args.t c.args.cell c.loop-u.u c.loop-u.invariant
     (elim c.else-u-t.branch [
-      else-u-t-via-then-u-t+else-is_pending w ↦ other_pends qs c.args.t c.args.cell c.loop-u.u w.if-u-t.true (sym w.is_pending.ensures ∙ w.if-is_pending.false)
-    | else-u-t-via-else-u-t w ↦ own_pends qs c.args.t c.args.cell c.loop-u.u w.if-u-t.false
+      | else-u-t-via-then-u-t+else-is_pending w ↦ other_pends qs c.args.t c.args.cell c.loop-u.u w.if-u-t.true (sym w.is_pending.ensures ∙ w.if-is_pending.false)
+      | else-u-t-via-else-u-t w ↦ own_pends qs c.args.t c.args.cell c.loop-u.u w.if-u-t.false
     ])
