@@ -23,9 +23,6 @@ module _ {A : Type 0} (judged : A → Judged) (f : ℕ → A → A) where
   off i n a e = rw (ne_eqb _ _ e)
 
 module _ {A : Type 0} {judged : A → Judged} {f : ℕ → A → A} where
-  pub start : (n : ℕ) (a : A) → Going judged f n a 0 a
-  start n a = let e : n - 0 ≡ n = omega arith in record { below = omega arith; same = rw e }
-
   module _ {n : ℕ} {a₀ a : A} {i : ℕ} (g : Going judged f n a₀ i a) where
     module _ {b : A} (e : b ≡ f i a) (h : i < n) where
       more : n - i ≡ suc (n - (i + 1))
@@ -40,6 +37,9 @@ module _ {A : Type 0} {judged : A → Judged} {f : ℕ → A → A} where
     pub ended : n ≤ i → a ≡ each judged f 0 n a₀
     unfolding each
     ended h = let e : n - i ≡ 0 = omega arith in sym (g.same ∙ rw e)
+
+-- for a loop over fields: a turn of it, a field that is refused, and its end
+pub ruleset turns = (turn, stopped, ended)
 
 module _ {A : Type 0} (judged : A → Judged) where
   pub turned : (Q : A → Type 0) (t : Bool) (rest : A → A) (b : A) → fine (judged b) ≡ t → ((judged b).number ≡ 0 → (judged (rest b)).number ≡ 0 → Q (rest b)) → (judged (go_on t rest b)).number ≡ 0 → Q (go_on t rest b)

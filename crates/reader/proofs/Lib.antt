@@ -4,7 +4,7 @@ pub mod Tests
 pub mod Each
 pub mod Refused
 pub mod Fields
-pub mod Turns
+pub mod Counts
 pub mod Instructions
 pub mod Kept
 pub mod Parts

@@ -1,15 +1,12 @@
--- The parts of a case in turn: where each one is fine the next is read, and the first that is refused is the answer.
-use Prim.Native.Nat.{ℕ, ◌≤◌}
+-- What the sizes of a case hold where they are fine, and what its cells are read into.
+use Prim.Native.Nat.{ℕ}
 use mathlib.Core.Path.{◌≡◌}
 use mathlib.Core.List.{List}
-use native.Mathlib.Omega.{arith}
-use Rattle.reader.specs.declared.state.State.{State}
 use Rattle.reader.specs.Reading.{Part}
 use Rattle.reader.specs.Limits.{THREADS, CELLS, DEPTH}
-use Rattle.reader.specs.Case.{next, and_then, count_judged, sizes_judged, sized_of, cells_of}
+use Rattle.reader.specs.Case.{next, and_then, count_judged, sizes_judged, sized_of}
 use Rattle.reader.proofs.Fields.{then_fine}
-use Rattle.reader.proofs.Turns.{Counted, count_fine}
-use Rattle.reader.proofs.Kept.{Kept, kept_all, kept_threads, cells_kept}
+use Rattle.reader.proofs.Counts.{Counted, count_fine}
 
 pub record Sizes (s : List ℕ) : Type 0 where
   pub threads : Counted s 1 THREADS 3
@@ -25,11 +22,3 @@ sizes_fine s e =
 
 abbrev pub first_part : List ℕ → Part
 first_part s = record { judged = next 6; state = sized_of s }
-
--- the threads are those of the sizes, all the way
-module _ (s : List ℕ) (e : (sizes_judged s).number ≡ 0) {m : State} (em : m ≡ sized_of s) {c : Part} (ec : c ≡ cells_of s (record { judged = next 6; state = m })) where
-  kept_first : Kept (sized_of s) c.state
-  kept_first = rw (ec, em) (cells_kept s (sized_of s) (first_part s) (kept_all (sized_of s)))
-
-  pub threads_celled : c.state.threads ≤ THREADS
-  threads_celled = let h = (sizes_fine s e).threads.most in let k = kept_threads kept_first in omega arith

@@ -18,7 +18,7 @@ use Rattle.reader.specs.Range.{ProgramIn}
 use Rattle.reader.specs.Case.{fine, filled, part_judged, count_judged, instruction_judged, with_instruction, instruction_into, instructions_of, with_count, program_into, programs_of}
 use Rattle.reader.proofs.Each.{turned, each_fine}
 use Rattle.reader.proofs.Fields.{refuses, field_right, pick_fine}
-use Rattle.reader.proofs.Turns.{count_fine}
+use Rattle.reader.proofs.Counts.{count_fine}
 use Rattle.reader.proofs.Kept.{Kept, kept_count, kept_instruction}
 
 -- the cells of o, and the first n programs of m, are in range

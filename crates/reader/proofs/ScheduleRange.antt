@@ -16,7 +16,7 @@ use Rattle.reader.specs.Range.{Scheduled}
 use Rattle.reader.specs.Case.{next, and_then, whole, itself, item_judged, items_judged, end_judged, item_count_judged, schedule_judged}
 use Rattle.reader.proofs.Each.{each_fine}
 use Rattle.reader.proofs.Fields.{refuses, need_fine, then_fine, whole_fine, field_there, field_right, field_next}
-use Rattle.reader.proofs.Turns.{item_count_there}
+use Rattle.reader.proofs.Counts.{item_count_there}
 
 module _ (s : List ℕ) (threads p : ℕ) where
   -- i items from p on were read

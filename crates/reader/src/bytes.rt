@@ -30,6 +30,7 @@ fn value_at(case: &[u8], at: usize) -> i32
     i32::from_be_bytes([case[at], case[at + 1], case[at + 2], case[at + 3]])
 }
 
+// A cell record of six bytes.
 #[tactic(auto, unfolding(crate::specs::Bytes::cell_at))]
 pub fn cell_at(case: &[u8], at: usize) -> Cell
     requires { at + cell_bytes ≤ length case.now }
@@ -42,6 +43,7 @@ pub fn cell_at(case: &[u8], at: usize) -> Cell
     }
 }
 
+// An instruction of seven bytes.
 #[tactic(auto, unfolding(crate::specs::Bytes::instruction_at))]
 pub fn instruction_at(case: &[u8], at: usize) -> Instruction
     requires { at + instruction_bytes ≤ length case.now }

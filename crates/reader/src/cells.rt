@@ -9,6 +9,7 @@ use crate::refusal::{Fault, Refusal};
 use crate::state::State;
 use crate::{bytes, field, rules};
 
+// One cell record: a field as a whole, and once it is there, its bytes in order.
 #[tactic(auto, unfolding(crate::specs::Case::cell_judged, crate::specs::Case::field, crate::specs::Case::verdict_of))]
 fn cell(case: &[u8], threads: usize, at: usize) -> Result<usize, Refusal>
     ensures judged { judged_of result ≡ cell_judged case.now threads at }
@@ -22,6 +23,8 @@ fn cell(case: &[u8], threads: usize, at: usize) -> Result<usize, Refusal>
     }
 }
 
+// The records of all cells.
+#[tactic(auto, using(crate::proofs::Each::turns), unfolding(crate::specs::Case::cells_of, crate::specs::Case::cell_into))]
 pub fn read(case: &[u8], state: &mut State, mut at: usize) -> Result<usize, Refusal>
     requires { state.old.cells ≤ CELLS }
     ensures read { part_of result state.new ≡ cells_of case.now (part_at at state.old) }

@@ -3,6 +3,7 @@ ghost use Rattle.std.specs.Prelude.{◌≡◌};
 ghost use Rattle.std.specs.Int.{from_bool};
 ghost use Rattle.reader.specs.Operations.{uses_of, number_of, column_of, Numbered};
 
+// The ten operations, by the numbers that a case gives them.
 #[derive(Clone, Copy, Debug, PartialEq, Eq)]
 pub enum Operation {
     Load = 1,
@@ -53,6 +54,7 @@ impl Operation {
     }
 }
 
+// The operation of a number.
 impl TryFrom<u16> for Operation {
     type Error = UnknownOperation;
 

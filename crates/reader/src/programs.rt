@@ -9,6 +9,7 @@ use crate::refusal::{Fault, Refusal};
 use crate::state::State;
 use crate::{bytes, field, rules};
 
+// One instruction: a field as a whole, and once it is there, its bytes in order.
 #[tactic(auto, unfolding(crate::specs::Case::instruction_judged, crate::specs::Case::field, crate::specs::Case::verdict_of))]
 fn instruction(case: &[u8], cells: usize, count: usize, at: usize) -> Result<usize, Refusal>
     ensures judged { judged_of result ≡ instruction_judged case.now cells count at }
@@ -22,6 +23,7 @@ fn instruction(case: &[u8], cells: usize, count: usize, at: usize) -> Result<usi
 }
 
 // The instructions of row t, of which there are `count`.
+#[tactic(auto, using(crate::proofs::Each::turns), unfolding(crate::specs::Case::instructions_of, crate::specs::Case::instruction_into))]
 fn instructions(
     case: &[u8],
     state: &mut State,
@@ -52,6 +54,8 @@ fn program(case: &[u8], state: &mut State, t: usize, at: usize) -> Result<usize,
     instructions(case, state, t, count, next)
 }
 
+// The programs of all threads.
+#[tactic(auto, using(crate::proofs::Each::turns), unfolding(crate::specs::Case::programs_of))]
 pub fn read(case: &[u8], state: &mut State, mut at: usize) -> Result<usize, Refusal>
     requires { state.old.threads ≤ THREADS }
     ensures { part_of result state.new ≡ programs_of case.now (part_at at state.old) }

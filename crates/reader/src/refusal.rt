@@ -2,7 +2,7 @@
 ghost use Rattle.std.specs.Prelude.{◌≡◌};
 ghost use Rattle.reader.specs.Refusal.{number_of};
 
-// The reasons, by the numbers that an answer gives them.
+// What is wrong with a case, by the numbers that an answer gives it.
 #[derive(Clone, Copy, Debug, PartialEq, Eq)]
 pub enum Fault {
     Short = 1,
@@ -15,6 +15,7 @@ pub enum Fault {
     Item,
 }
 
+// The first thing that is wrong, and the place of the byte that shows it.
 #[derive(Clone, Copy, Debug, PartialEq, Eq)]
 pub struct Refusal {
     pub fault: Fault,
@@ -22,13 +23,14 @@ pub struct Refusal {
 }
 
 impl Fault {
+    // The number that an answer gives it.
     pub fn number(self) -> u32
         ensures { result ≡ number_of self }
     {
         self as u32
     }
 
-    // The refusal for this reason at a place.
+    // The refusal of a case for this, at a place.
     pub fn at(self, place: usize) -> Refusal
         ensures { result ≡ record { fault = self; place = place } }
     {

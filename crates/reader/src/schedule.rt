@@ -19,6 +19,8 @@ fn item(case: &[u8], threads: usize, at: usize) -> Result<usize, Refusal>
     Ok(next)
 }
 
+// So many items in turn.
+#[tactic(auto, using(crate::proofs::Each::turns), unfolding(crate::specs::Case::items_judged))]
 fn items(case: &[u8], threads: usize, n: usize, mut at: usize) -> Result<usize, Refusal>
     ensures { judged_of result ≡ items_judged case.now threads n at }
 {
