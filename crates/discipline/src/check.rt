@@ -41,7 +41,7 @@ pub fn check(case: &[u8], values: &mut [i32], memory: &mut [i32]) -> Answer
 {
     let read = match reader::read(case) {
         Ok(read) => read,
-        Err(refusal) => return Answer::of(refusal.fault.number(), refusal.place),
+        Err(refusal) => return Answer::of(u32::from(refusal.fault), refusal.place),
     };
     let mut state = read.state;
     let cells = state.cells;

@@ -10,6 +10,7 @@ use crate::breach::Reason;
 use crate::table::Held;
 use crate::{marks, rules, table};
 use machine::{effect, step};
+use reader::item::Item;
 use reader::state::State;
 
 // The next instruction of row t.
@@ -31,9 +32,8 @@ pub fn stepped(s: &mut State, item: u8) -> Result<i32, Reason>
     requires { Runnable s.old × (item_fits s.old.threads item ≡ true) }
     ensures { outcome_of number_of s.new result ≡ checked_of s.old item }
 {
-    if item >= 17 {
-        Ok(step::drain(s, usize::from(item - 17))?)
-    } else {
-        take(s, usize::from(item - 1))
+    match Item::from(item) {
+        Item::Take(t) => take(s, t),
+        Item::Drain(t) => Ok(step::drain(s, t)?),
     }
 }

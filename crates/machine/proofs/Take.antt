@@ -1,13 +1,15 @@
 -- The next instruction of a thread: what the code looks at, decides and stores is the step of the definition.
 use Rattle.std.specs.Prelude.{IsSome}
-use Rattle.std.proofs.Common.{◌≡◌, ℕ, zero, suc, ◌+◌, ◌-◌, ◌<◌, ◌≤◌, Bool, true, false, ◌||◌, eqb, leb, ◌⊎◌, sym, refl, ◌∙◌, subst, inl, inr, ⊎_elim, arith, le-ltb, lt-ltb, leb-false, leb-true}
+use Rattle.std.proofs.Common.{ap, ◌≡◌, ℕ, zero, suc, ◌+◌, ◌-◌, ◌<◌, ◌≤◌, Bool, true, false, ◌||◌, eqb, leb, ◌⊎◌, sym, refl, ◌∙◌, subst, inl, inr, ⊎_elim, arith, le-ltb, lt-ltb, leb-false, leb-true}
 use borrow.Author.Tests.{eqb-false}
 use Rattle.reader.specs.declared.state.Queue.{Queue}
 use Rattle.reader.specs.declared.state.Instruction.{Instruction}
+use Rattle.reader.specs.declared.item.Item.{Item}
+use Rattle.reader.specs.declared.item.Item.TheVariants.{Take, Drain}
 use Rattle.reader.specs.declared.state.State.{State}
 use Rattle.reader.specs.Limits.{THREADS, DEPTH, INSTRUCTIONS}
 use Rattle.reader.specs.State.{queue_of, position_of, count_of}
-use Rattle.reader.specs.Rules.{pick, within, BRANCH, item_fits}
+use Rattle.reader.specs.Rules.{pick, within, BRANCH, item_fits, item_of}
 use Rattle.reader.specs.Drain.{Drainable}
 use Rattle.reader.specs.Range.{InRange}
 use Rattle.reader.proofs.Tests.{false_true, within_true}
@@ -88,6 +90,42 @@ module _ (threads x : ℕ) (e : item_fits threads x ≡ true) where
 
   pub take_row : x < 17 → (1 ≤ x) × (x - 1 < threads)
   take_row h = ⊎_elim (λ a. (a.0, omega arith)) (λ a. absurd (omega arith)) item_cases
+
+-- what a byte is, by the row that it is about
+abbrev row_of : Item → ℕ
+row_of (Take t) = t
+row_of (Drain t) = t
+
+abbrev takes : Item → Bool
+takes (Take t) = true
+takes (Drain t) = false
+
+module _ (x t : ℕ) where
+  pub is_take : Take t ≡ item_of x → (x < 17) × (t ≡ x - 1)
+  is_take = go (leb 17 x) refl
+    where
+      go : (b : Bool) → leb 17 x ≡ b → Take t ≡ pick b (Drain (x - 17)) (Take (x - 1)) → (x < 17) × (t ≡ x - 1)
+      go true b e = absurd (false_true (sym (ap takes e)))
+      go false b e = (leb-false 17 x b, ap row_of e)
+
+  pub is_drain : Drain t ≡ item_of x → (17 ≤ x) × (t ≡ x - 17)
+  is_drain = go (leb 17 x) refl
+    where
+      go : (b : Bool) → leb 17 x ≡ b → Drain t ≡ pick b (Drain (x - 17)) (Take (x - 1)) → (17 ≤ x) × (t ≡ x - 17)
+      go true b e = (leb-true 17 x b, ap row_of e)
+      go false b e = absurd (false_true (ap takes e))
+
+  module _ (threads : ℕ) (f : item_fits threads x ≡ true) (k : threads ≤ THREADS) where
+    pub take_there : Take t ≡ item_of x → t < threads
+    take_there e =
+        let i = is_take e in
+        let r = take_row threads x f i.0 in
+        rw i.1 r.1
+
+    pub drain_there : Drain t ≡ item_of x → t < threads
+    drain_there e =
+        let i = is_drain e in
+        rw i.1 (drain_row threads x f i.0 k)
 
 -- so what holds of every row's two items holds of every item that is right
 pub by_kind : (threads : ℕ) → threads ≤ THREADS → (P : ℕ → Type 0) → ((t : ℕ) → t < threads → P (17 + t)) → ((t : ℕ) → t < threads → P (1 + t)) → (x : ℕ) → item_fits threads x ≡ true → P x

@@ -11,6 +11,7 @@ use crate::action::Action;
 use crate::effect;
 use crate::effect::Seen;
 use crate::hurdle::Hurdle;
+use reader::item::Item;
 use reader::state::{Instruction, State};
 
 // The instruction that a row is at, what it finds, and what it is.
@@ -80,9 +81,8 @@ pub fn stepped(s: &mut State, item: u8) -> Result<i32, Hurdle>
     requires { InRange s.old × (item_fits s.old.threads item ≡ true) }
     ensures { outcome_of number_of s.new result ≡ step_of s.old item }
 {
-    if item >= 17 {
-        drain(s, usize::from(item - 17))
-    } else {
-        take(s, usize::from(item - 1))
+    match Item::from(item) {
+        Item::Take(t) => take(s, t),
+        Item::Drain(t) => drain(s, t),
     }
 }

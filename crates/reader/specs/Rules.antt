@@ -1,6 +1,8 @@
 -- What a cell, an instruction and an item of a case may hold. These judge values, not bytes, so that a lent state and what is to be written
 -- are judged by the same rules.
-use Rattle.std.specs.Prelude.{ℕ, ◌+◌, Bool, true, false, ◌&&◌, ◌||◌, leb, ltb, eqb, ℤ, pos, negsuc}
+use Rattle.std.specs.Prelude.{ℕ, ◌+◌, ◌-◌, Bool, true, false, ◌&&◌, ◌||◌, leb, ltb, eqb, ℤ, pos, negsuc}
+use Rattle.reader.specs.declared.item.Item.{Item}
+use Rattle.reader.specs.declared.item.Item.TheVariants.{Take, Drain}
 use Rattle.reader.specs.declared.state.Instruction.{Instruction}
 use Rattle.reader.specs.Limits.{REGISTERS}
 use Rattle.reader.specs.Operations.{OPERATIONS, CELL, REGISTER, VALUE, uses_of}
@@ -70,3 +72,7 @@ instruction_wrong cells count i =
 -- "a byte an item: 1 to 4, that thread carries out its next instruction; 17 to 20, the oldest pending store of thread 1 to 4 drains"
 unfoldable pub item_fits : ℕ → ℕ → Bool
 item_fits threads x = within 1 threads x || within 17 (16 + threads) x
+
+-- the row that a byte is about, and what it does: row t is thread t + 1
+abbrev pub item_of : ℕ → Item
+item_of x = pick (leb 17 x) (Drain (x - 17)) (Take (x - 1))

@@ -10,6 +10,7 @@ ghost use Rattle.reader.specs.Refusal.{judged_of, reading_of};
 pub mod bytes;
 mod cells;
 mod field;
+pub mod item;
 pub mod operations;
 mod programs;
 pub mod refusal;

@@ -1,5 +1,5 @@
 -- The laws of Checked, one for each way out.
-use Rattle.std.proofs.Common.{◌≡◌, ◌≤◌, ◌<◌, ◌+◌, length, ap, ◌∙◌, sym, refl, arith, rules}
+use Rattle.std.proofs.Common.{refl, arith}
 use Rattle.reader.specs.Case.{refused_of}
 use Rattle.reader.proofs.Refused.{refused}
 use Rattle.discipline.proofs.Checked.{read_right, part_same, start_within, stop_there, runnable_read, items_read, checks_refused, checks_short_values, checks_short_memory, checks_whole, checks_stopped}
@@ -9,7 +9,7 @@ use Rattle.discipline.proofs.check.check.Goals.{then-values-read-via-then-values
 
 pub returns-in-Err : goal.returns-in-Err
 unfolding refused_of
-returns-in-Err c = rw (c.of.ensures, c.number.ensures) (checks_refused _ _ _ c.in-Err.ensures (refused c.in-Err.refusal))
+returns-in-Err c = rw (c.of.ensures, c.from.ensures) (checks_refused _ _ _ c.in-Err.ensures (refused c.in-Err.refusal))
 
 pub returns-then-values-read : goal.returns-then-values-read
 returns-then-values-read c =
@@ -47,4 +47,4 @@ pub returns-in-None : goal.returns-in-None
 returns-in-None c = rw c.of-in-None.ensures (checks_whole _ _ _ c.in-Ok.ensures refl c.if-values-read.false c.if-memory-cells.false (part_same c.args.case.now c.in-Ok.read.start) c.ran-ended.ensures (rw c.copy_from_slice.ensures.after refl) c.in-None.is)
 
 pub returns-in-Some : goal.returns-in-Some
-returns-in-Some c = rw c.from.ensures (checks_stopped _ _ _ c.in-Ok.ensures refl c.if-values-read.false c.if-memory-cells.false (part_same c.args.case.now c.in-Ok.read.start) c.ran-ended.ensures (rw c.copy_from_slice.ensures.after refl) c.in-Some.is c.thread.ensures)
+returns-in-Some c = rw c.from-in-Some.ensures (checks_stopped _ _ _ c.in-Ok.ensures refl c.if-values-read.false c.if-memory-cells.false (part_same c.args.case.now c.in-Ok.read.start) c.ran-ended.ensures (rw c.copy_from_slice.ensures.after refl) c.in-Some.is c.thread.ensures)
