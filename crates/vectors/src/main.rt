@@ -34,7 +34,7 @@ fn judge_next(length: usize) -> Result<(), CutShort> {
     Ok(())
 }
 
-// Goes on behind so many bytes, or to the end of the input.
+// Goes on behind so many bytes, or to the end of the input. A `while`, since only the input says after how many turns: a `for` would need a bound made up for it.
 fn pass_over(bytes: usize) {
     let mut left = bytes;
     while left > 0 {
