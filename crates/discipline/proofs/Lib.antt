@@ -12,7 +12,6 @@ pub mod Viewed
 pub mod Buffers
 pub mod Sound
 pub mod Turns
-pub mod Copied
 pub mod Checked
 pub mod One
 pub mod Meaning

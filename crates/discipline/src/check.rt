@@ -4,6 +4,7 @@ ghost use Rattle.discipline.specs.Check.{answer, thread_of, Checks};
 
 use crate::run;
 
+// Three numbers, as C sees them: the number of a reason, or 0; the place; and the thread that has a part in it, or 0.
 #[repr(C)]
 #[derive(Clone, Copy, Debug, PartialEq, Eq)]
 pub struct Answer {

@@ -27,7 +27,7 @@ pub enum Action {
 }
 
 impl Action {
-    // The marks of a cell that is acquired.
+    // The marks that a cell can get, as they stand in the lent state.
     pub const LOCAL: u8 = 0;
 
     pub const SHARED: u8 = 1;

@@ -1,9 +1,8 @@
 -- A queue row: an array of entries, with a count beside it. What the row stands for is `pending`, and laws about a row speak of that list.
-use Rattle.std.specs.Prelude.{ℕ, ◌+◌, ◌-◌, List, ◌∷◌, ◌++◌, take, drop, set, eqb, ltb}
+use Rattle.std.specs.Prelude.{ℕ, ◌+◌, ◌-◌, List, ◌∷◌, ◌++◌, take, drop, set}
 use Rattle.reader.specs.declared.state.Pending.{Pending}
 use Rattle.reader.specs.declared.state.Queue.{Queue}
 use Rattle.reader.specs.State.{no_pending}
-use Rattle.reader.specs.Rules.{pick}
 
 -- the pending stores, oldest first
 abbrev pub pending : Queue → List Pending
@@ -20,7 +19,3 @@ popped_of q = record { entries = shifted q.entries (q.count - 1); count = q.coun
 -- "STORE appends to the own buffer."
 abbrev pub pushed_of : Queue → Pending → Queue
 pushed_of q e = record { entries = set q.entries q.count e; count = q.count + 1 }
-
--- what a place of a row gets by a pop: what stood behind it, or nothing where the newest stood, or what stands there
-abbrev pub moved_up : Pending → Pending → ℕ → ℕ → Pending
-moved_up here behind j last = pick (ltb j last) behind (pick (eqb j last) no_pending here)

@@ -5,7 +5,7 @@ ghost use Rattle.reader.specs.Rules.{cell_bytes, instruction_bytes};
 
 use crate::state::Instruction;
 
-// A cell record of a case.
+// A cell record of a case: numbers as they stand there, for rules to judge.
 #[derive(Clone, Copy)]
 pub struct Cell {
     pub value: i32,
