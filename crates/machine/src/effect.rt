@@ -20,6 +20,8 @@ pub struct Seen {
     pub word: i32,
 }
 
+// Rows are plain numbers, and an instruction and its row two parameters: a type that keeps `t < THREADS` or `Lookable t i` would be made at each
+// call and taken apart again at each index and in each clause.
 impl Seen {
     // What instruction i of row t finds.
     #[tactic(auto, unfolding(crate::specs::Effect::seen_of))]

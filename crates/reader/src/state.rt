@@ -5,7 +5,8 @@ ghost use Rattle.reader.specs.Queue.{pending, popped_of, pushed_of};
 ghost use Rattle.reader.specs.State.{no_pending, no_queue, fresh_of};
 ghost use Rattle.reader.specs.Drain.{Drainable, drained_of};
 
-// A debugger lends a State over the C boundary: C layout, numbers only, and wide fields first, so that no byte of it is padding.
+// A debugger lends a State over the C boundary: C layout, numbers only, and wide fields first, so that no byte of it is padding. It may lend any
+// numbers, so none of these types can have an invariant: what has to hold of a state or a row stands in the contracts.
 
 // A store that has not reached memory.
 #[repr(C)]

@@ -17,7 +17,8 @@ pub const ITEM_BYTES: usize = 12;
 // The line of an answer, with two numbers of ten digits and one of twenty.
 pub const ANSWER_BYTES: usize = 60;
 
-// The report of an answer and the two lists, at the front of the buffer; the rest of the buffer stays. Gives back how long it is.
+// The report of an answer and the two lists, at the front of the buffer; the rest of the buffer stays. Gives back how long it is. The answer is
+// handed over number by number, since the report depends on no other crate.
 pub fn report(
     number: u32,
     place: usize,

@@ -7,7 +7,7 @@ ghost use Rattle.report.specs.Room.{line_room, lists_room, report_room};
 
 use itoa::Buffer;
 
-// The buffer, and the place behind what is written.
+// The buffer, and the place behind what is written. No invariant says that a text fits: each method asks for the room of its own text.
 #[derive(Drop)]
 pub struct Page<'a> {
     out: &'a mut [u8],
