@@ -13,6 +13,7 @@ use Rattle.reader.specs.State.{queue_of}
 use Rattle.reader.specs.Rules.{pick}
 use Rattle.reader.proofs.Tests.{false_true}
 use Rattle.machine.specs.declared.action.Action.{Action}
+use Rattle.machine.specs.declared.action.Sharing.{Sharing}
 use Rattle.machine.specs.declared.action.Action.TheVariants.{Read, Store, Fence, Swap, Acquire, Release, Silent, End}
 use Rattle.machine.specs.Action.{next_of}
 use Rattle.machine.specs.Effect.{guard, pends, blocked_of}
@@ -88,7 +89,7 @@ module _ (s : State) (t : ℕ) where
   swap_cases m (swap_waits h) = first h refl
   swap_cases m (swap_others h) = second h refl
 
-  acquire_cases : {c mark : ℕ} (m : ℕ) → Against s t (Acquire c mark) m → Either (owned (next_held s t)) (next_elsewhere s t) 33 34 m
+  acquire_cases : {c : ℕ} {mark : Sharing} (m : ℕ) → Against s t (Acquire c mark) m → Either (owned (next_held s t)) (next_elsewhere s t) 33 34 m
   acquire_cases m (acquire_owned h) = first h refl
   acquire_cases m (acquire_pending h) = second h refl
 

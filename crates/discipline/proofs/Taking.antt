@@ -27,7 +27,7 @@ use Rattle.machine.specs.Integer.{eq_z}
 use Rattle.machine.specs.Buffer.{forwarded, after_of}
 use Rattle.machine.specs.declared.action.Action.{Action}
 use Rattle.machine.specs.declared.action.Action.TheVariants.{Read, Store, Fence, Swap, Acquire, Release, Silent, End}
-use Rattle.machine.specs.Action.{LOCAL, action_of, current_of, next_of}
+use Rattle.machine.specs.Action.{LOCAL, mark_of, action_of, current_of, next_of}
 use Rattle.machine.specs.Effect.{cell_of, seen_of, blocked_of, effect_of, took_of, pushes, pushed_value}
 use Rattle.machine.specs.Run.{taken_of}
 use Rattle.machine.specs.Step.{next_effect}
@@ -195,7 +195,7 @@ module _ {s : State} (g : Runnable s) {t : ℕ} (h : t < s.threads) (l : positio
     takes (Acquire n mark) e y z =
         let f = acquire_free t (next_held s t) (next_elsewhere s t) z in
         subst (Takes W t (acted lo r (Acquire n mark)))
-        (with_same W t (moved_on (Acquire n mark) (position_of s t + 1)) queue_there refl (ap (λ (k : ℕ). enter (table_map s) k (suc t) (eqb mark LOCAL)) e.0 ∙ ap (λ (o : ℕ). enter (table_map s) c o (eqb mark LOCAL)) (sym (add-one t))) (sym same_memory))
+        (with_same W t (moved_on (Acquire n mark) (position_of s t + 1)) queue_there refl (ap (λ (k : ℕ). enter (table_map s) k (suc t) (eqb (mark_of mark) LOCAL)) e.0 ∙ ap (λ (o : ℕ). enter (table_map s) c o (eqb (mark_of mark) LOCAL)) (sym (add-one t))) (sym same_memory))
         (t_acquire (rw e.0 f.0) (nowhere n e.1 f.1))
     takes (Release n) e y z =
         let f = release_free t (next_held s t) q z in

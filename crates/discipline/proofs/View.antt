@@ -15,7 +15,7 @@ use Rattle.reader.specs.Rules.{pick}
 use Rattle.machine.specs.Integer.{eq_z}
 use Rattle.machine.specs.declared.action.Action.{Action}
 use Rattle.machine.specs.declared.action.Action.TheVariants.{Read, Store, Fence, Swap, Acquire, Release, Silent, End}
-use Rattle.machine.specs.Action.{action_of, LOCAL}
+use Rattle.machine.specs.Action.{action_of, LOCAL, mark_of}
 use Rattle.discipline.specs.OneMemory.{reads}
 use Rattle.discipline.proofs.Maps.{upd}
 use Rattle.discipline.proofs.Abstract.{Act, stays, loads, stores, fences, swaps, acquires, releases, Table, Thread, Machine, Plain}
@@ -49,7 +49,7 @@ acted l r (Read c) = loads c (λ v. went l (Read c) (l.at + 1) r v v)
 acted l r (Store c x) = stores c x (went l (Store c x) (l.at + 1) r (l.registers r) (pos 0))
 acted l r Fence = fences (went l Fence (l.at + 1) r (l.registers r) (pos 0))
 acted l r (Swap c old x) = swaps c (λ v. pick (eq_z v old) x v) (λ v. went l (Swap c old x) (l.at + 1) r v v)
-acted l r (Acquire c mark) = acquires c (eqb mark LOCAL) (went l (Acquire c mark) (l.at + 1) r (l.registers r) (pos 0))
+acted l r (Acquire c mark) = acquires c (eqb (mark_of mark) LOCAL) (went l (Acquire c mark) (l.at + 1) r (l.registers r) (pos 0))
 acted l r (Release c) = releases c (went l (Release c) (l.at + 1) r (l.registers r) (pos 0))
 acted l r (Silent n x) = stays (went l (Silent n x) n r x (pos 0))
 acted l r End = stays (record { row = l.row; at = l.at; registers = l.registers; log = overrun l.log })

@@ -4,6 +4,7 @@ use Rattle.std.specs.Prelude.{ℕ, ◌-◌, ◌≤◌, ◌<◌, true, false, ◌
 use Rattle.reader.specs.declared.state.State.{State}
 use Rattle.reader.specs.State.{queue_of}
 use Rattle.machine.specs.declared.action.Action.{Action}
+use Rattle.machine.specs.declared.action.Sharing.{Sharing}
 use Rattle.machine.specs.declared.action.Action.TheVariants.{Read, Store, Fence, Swap, Acquire, Release, End}
 use Rattle.machine.specs.Action.{next_of}
 use Rattle.machine.specs.Effect.{pends}
@@ -28,9 +29,9 @@ module _ (s : State) (t : ℕ) where
     store_others : {c : ℕ} {x : ℤ} → others (next_held s t) t ≡ true → Against (Store c x) 32
     swap_others : {c : ℕ} {old x : ℤ} → others (next_held s t) t ≡ true → Against (Swap c old x) 32
     -- "ACQUIRE of an owned cell, one's own too"
-    acquire_owned : {c mark : ℕ} → owned (next_held s t) ≡ true → Against (Acquire c mark) 33
+    acquire_owned : {c : ℕ} {mark : Sharing} → owned (next_held s t) ≡ true → Against (Acquire c mark) 33
     -- "ACQUIRE with a store to it pending elsewhere"
-    acquire_pending : {c mark : ℕ} → next_elsewhere s t ≡ true → Against (Acquire c mark) 34
+    acquire_pending : {c : ℕ} {mark : Sharing} → next_elsewhere s t ≡ true → Against (Acquire c mark) 34
     -- "RELEASE of a cell not one's own"
     release_others : {c : ℕ} → owns (next_held s t) t ≡ false → Against (Release c) 35
     -- "RELEASE with pending stores"

@@ -4,7 +4,7 @@ ghost use Rattle.reader.specs.Limits.{THREADS};
 ghost use Rattle.discipline.specs.Marks.{marks_of};
 
 use crate::table::Held;
-use machine::action::Action;
+use machine::action::{Action, Sharing};
 
 // What is held of an instruction's cell and of its thread's flag once it is taken. A store to any cell but an own local one sets the flag.
 #[tactic(auto, unfolding(crate::specs::Marks::stored_of, crate::specs::Marks::marks_of))]
@@ -18,12 +18,12 @@ pub fn marked(h: Held, t: usize, action: Action) -> Held
         Action::Fence | Action::Swap { .. } => Held { dirty: 0, ..h },
         Action::Acquire { sharing, .. } => Held {
             owner: (t + 1) as u8,
-            sharing,
+            sharing: sharing as u8,
             ..h
         },
         Action::Release { .. } => Held {
             owner: 0,
-            sharing: Action::SHARED,
+            sharing: Sharing::Shared as u8,
             ..h
         },
         Action::Read { .. } | Action::Silent { .. } | Action::End => h,

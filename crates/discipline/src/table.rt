@@ -3,7 +3,7 @@ ghost use Rattle.std.specs.Prelude.{◌≡◌};
 ghost use Rattle.machine.specs.Look.{Lookable};
 ghost use Rattle.discipline.specs.Table.{held_in, holding_of, owned, owns, others, is_local, is_dirty};
 
-use machine::action::Action;
+use machine::action::Sharing;
 use machine::effect;
 use reader::state::{Instruction, State};
 
@@ -52,7 +52,7 @@ impl Held {
     pub fn is_local(self) -> bool
         ensures { result ≡ is_local self }
     {
-        self.sharing == Action::LOCAL
+        self.sharing == Sharing::Local as u8
     }
 
     pub fn is_dirty(self) -> bool

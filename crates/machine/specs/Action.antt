@@ -6,6 +6,8 @@ use Rattle.reader.specs.declared.state.State.{State}
 use Rattle.reader.specs.State.{position_of, count_of, instruction_of, register_of}
 use Rattle.reader.specs.Rules.{pick}
 use Rattle.machine.specs.declared.action.Action.{Action}
+use Rattle.machine.specs.declared.action.Sharing.{Sharing}
+use Rattle.machine.specs.declared.action.Sharing.TheVariants.{Local, Shared}
 use Rattle.machine.specs.declared.action.Action.TheVariants.{Read, Store, Fence, Swap, Acquire, Release, Silent, End}
 use Rattle.machine.specs.Integer.{eq_z, sum_of}
 
@@ -15,6 +17,10 @@ SHARED = 1
 
 abbrev pub LOCAL : ℕ
 LOCAL = 0
+
+abbrev pub mark_of : Sharing → ℕ
+mark_of Local = LOCAL
+mark_of Shared = SHARED
 
 -- an instruction at a position, whose register holds x: its row of the table of operations; 0 is no operation
 unfoldable pub action_of : Instruction → ℕ → ℤ → Action
@@ -26,8 +32,8 @@ action_of i at x =
     ∷ Store i.cell x
     ∷ Fence
     ∷ Swap i.cell x i.value
-    ∷ Acquire i.cell LOCAL
-    ∷ Acquire i.cell SHARED
+    ∷ Acquire i.cell Local
+    ∷ Acquire i.cell Shared
     ∷ Release i.cell
     ∷ Silent (pick (eq_z x i.value) i.cell (at + 1)) x
     ∷ Silent (at + 1) (sum_of x i.value)

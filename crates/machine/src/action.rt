@@ -8,6 +8,13 @@ use crate::integer;
 use reader::operations::Operation;
 use reader::state::Instruction;
 
+// The mark of a cell, numbered as it stands in the state.
+#[derive(Clone, Copy, Debug, PartialEq, Eq)]
+pub enum Sharing {
+    Local = 0,
+    Shared = 1,
+}
+
 #[derive(Clone, Copy, Debug, PartialEq, Eq)]
 pub enum Action {
     // Of a cell, into the register.
@@ -17,8 +24,8 @@ pub enum Action {
     Fence,
     // Of a cell: it is compared with the old content of the register, and gets the new value where they are equal.
     Swap { cell: u8, old: i32, new: i32 },
-    // Of a cell, with the sharing mark that it gets.
-    Acquire { cell: u8, sharing: u8 },
+    // Of a cell, with the mark that it gets.
+    Acquire { cell: u8, sharing: Sharing },
     Release { cell: u8 },
     // Nothing but the thread's own position and register: where it goes, what the register then holds.
     Silent { next: usize, content: i32 },
@@ -27,11 +34,6 @@ pub enum Action {
 }
 
 impl Action {
-    // The marks that a cell can get, as they stand in the lent state.
-    pub const LOCAL: u8 = 0;
-
-    pub const SHARED: u8 = 1;
-
     // What an instruction at a position is, whose register holds so much.
     #[tactic(auto, unfolding(crate::specs::Action::action_of))]
     pub fn of(i: Instruction, at: usize, content: i32) -> Self
@@ -61,11 +63,11 @@ impl Action {
             },
             Operation::AcquireLocal => Action::Acquire {
                 cell,
-                sharing: Action::LOCAL,
+                sharing: Sharing::Local,
             },
             Operation::AcquireShared => Action::Acquire {
                 cell,
-                sharing: Action::SHARED,
+                sharing: Sharing::Shared,
             },
             Operation::Release => Action::Release { cell },
             Operation::Branch if content == i.value => Action::Silent {
