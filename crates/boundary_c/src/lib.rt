@@ -1,7 +1,7 @@
 #![tactic(auto)]
 
-// The exports of the static library that C and Rust programs link: the functions of `boundary` by their C names, each with the same clause. What belongs here: nothing else. They are written twice,
-// since a crate is a library or a static library, and no crate can depend on the second kind.
+// The exports of the static library that C and Rust programs link: the functions of `boundary` by their C names, each with the same clause. What belongs
+// here: nothing else. They are written twice, since a static library has its exports in itself, and the edits that their clauses refuse stand in `boundary`.
 ghost use Rattle.discipline.specs.Check.{Checks};
 ghost use Rattle.stepping.specs.Step.{Steps};
 

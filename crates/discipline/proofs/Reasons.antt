@@ -4,7 +4,7 @@ use Rattle.machine.proofs.Take.{hurdle_nonzero}
 use Rattle.discipline.specs.declared.breach.Breach.{Breach}
 use Rattle.discipline.specs.declared.breach.Breach.TheVariants.{LoadOfLocal, LoadWhileDirty, StoreToOthers, AcquireOfOwned, AcquireWhilePending, ReleaseOfOthers, ReleaseWhilePending}
 use Rattle.discipline.specs.declared.breach.Reason.{Reason}
-use Rattle.discipline.specs.declared.breach.Reason.TheVariants.{Held, Breaks}
+use Rattle.discipline.specs.declared.breach.Reason.TheVariants.{Blocked, Broken}
 use Rattle.discipline.specs.Reason.{breach_number, number_of}
 
 pub breach_nonzero : (b : Breach) → breach_number b ≡ 0 → ⊥
@@ -17,5 +17,5 @@ breach_nonzero ReleaseOfOthers e = omega arith
 breach_nonzero ReleaseWhilePending e = omega arith
 
 pub reason_nonzero : (r : Reason) → number_of r ≡ 0 → ⊥
-reason_nonzero (Held hurdle) e = hurdle_nonzero hurdle e
-reason_nonzero (Breaks breach) e = breach_nonzero breach e
+reason_nonzero (Blocked hurdle) e = hurdle_nonzero hurdle e
+reason_nonzero (Broken breach) e = breach_nonzero breach e

@@ -1,16 +1,28 @@
 -- What a check of a whole case answers, and what it leaves in the two lent lists, for every byte string whatsoever.
-use Rattle.std.specs.Prelude.{ℕ, ◌+◌, ◌-◌, Bool, ◌||◌, ◌≡◌, List, ◌++◌, length, take, drop, eqb, leb, ltb, ℤ}
+use Rattle.std.specs.Prelude.{ℕ, Result, Ok, Err, ◌+◌, ◌-◌, Bool, ◌||◌, ◌≡◌, List, ◌++◌, length, take, drop, eqb, leb, ltb, ℤ}
 use Rattle.reader.specs.Reading.{Reading}
 use Rattle.reader.specs.Bytes.{byte}
 use Rattle.reader.specs.Rules.{pick}
 use Rattle.reader.specs.Case.{read_of}
 use Rattle.machine.specs.Run.{Ran, run_of, values_of}
+use Rattle.reader.specs.Refusal.{number_of}
 use Rattle.discipline.specs.declared.check.Answer.{Answer}
+use Rattle.discipline.specs.declared.check.NotRun.{NotRun}
+use Rattle.discipline.specs.declared.check.NotRun.TheVariants.{Malformed, ListTooShort}
 use Rattle.discipline.specs.Step.{checked_of}
 
 -- "An answer is a number, a place and a thread."
 abbrev pub answer : ℕ → ℕ → ℕ → Answer
 answer number place thread = record { place = place; number = number; thread = thread }
+
+-- why a case is not run: what is wrong with it, or a list that is too short
+abbrev pub not_run_of : NotRun → Answer
+not_run_of (Malformed refusal) = answer (number_of refusal.fault) refusal.place 0
+not_run_of ListTooShort = answer 9 0 0
+
+abbrev pub told_of : Result Answer NotRun → Answer
+told_of (Ok a) = a
+told_of (Err why) = not_run_of why
 
 -- the thread that an item is about: 1 to 4, or 17 to 20
 abbrev pub thread_of : ℕ → ℕ

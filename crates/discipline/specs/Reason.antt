@@ -4,7 +4,7 @@ use Rattle.machine.specs.Hurdle.{number_of as hurdle_number}
 use Rattle.discipline.specs.declared.breach.Breach.{Breach}
 use Rattle.discipline.specs.declared.breach.Breach.TheVariants.{LoadOfLocal, LoadWhileDirty, StoreToOthers, AcquireOfOwned, AcquireWhilePending, ReleaseOfOthers, ReleaseWhilePending}
 use Rattle.discipline.specs.declared.breach.Reason.{Reason}
-use Rattle.discipline.specs.declared.breach.Reason.TheVariants.{Held, Breaks}
+use Rattle.discipline.specs.declared.breach.Reason.TheVariants.{Blocked, Broken}
 
 abbrev pub breach_number : Breach → ℕ
 -- "load of another's local cell"
@@ -23,5 +23,5 @@ breach_number ReleaseOfOthers = 35
 breach_number ReleaseWhilePending = 36
 
 abbrev pub number_of : Reason → ℕ
-number_of (Held hurdle) = hurdle_number hurdle
-number_of (Breaks breach) = breach_number breach
+number_of (Blocked hurdle) = hurdle_number hurdle
+number_of (Broken breach) = breach_number breach

@@ -2,7 +2,7 @@
 ghost use Rattle.std.specs.Prelude.{◌≡◌};
 ghost use Rattle.machine.specs.Hurdle.{number_of as hurdle_number};
 ghost use Rattle.discipline.specs.Reason.{breach_number, number_of};
-ghost use Rattle.discipline.specs.declared.breach.Reason.TheVariants.{Held, Breaks};
+ghost use Rattle.discipline.specs.declared.breach.Reason.TheVariants.{Blocked, Broken};
 
 use machine::hurdle::Hurdle;
 
@@ -28,23 +28,31 @@ pub enum Breach {
 // The machine holds it back, or a rule is broken.
 #[derive(Clone, Copy, Debug, PartialEq, Eq)]
 pub enum Reason {
-    Held(Hurdle),
-    Breaks(Breach),
+    Blocked(Hurdle),
+    Broken(Breach),
+}
+
+impl From<Breach> for u32 {
+    ghost from_gives = { λ breach number. number ≡ breach_number breach };
+
+    fn from(breach: Breach) -> u32 {
+        breach as u32
+    }
 }
 
 impl From<Hurdle> for Reason {
-    ghost from_gives = { λ hurdle reason. reason ≡ Held hurdle };
+    ghost from_gives = { λ hurdle reason. reason ≡ Blocked hurdle };
 
     fn from(hurdle: Hurdle) -> Self {
-        Reason::Held(hurdle)
+        Reason::Blocked(hurdle)
     }
 }
 
 impl From<Breach> for Reason {
-    ghost from_gives = { λ breach reason. reason ≡ Breaks breach };
+    ghost from_gives = { λ breach reason. reason ≡ Broken breach };
 
     fn from(breach: Breach) -> Self {
-        Reason::Breaks(breach)
+        Reason::Broken(breach)
     }
 }
 
@@ -53,8 +61,8 @@ impl From<Reason> for u32 {
 
     fn from(reason: Reason) -> u32 {
         match reason {
-            Reason::Held(hurdle) => u32::from(hurdle),
-            Reason::Breaks(breach) => breach as u32,
+            Reason::Blocked(hurdle) => u32::from(hurdle),
+            Reason::Broken(breach) => u32::from(breach),
         }
     }
 }

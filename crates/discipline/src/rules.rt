@@ -70,21 +70,33 @@ fn release(t: usize, h: Held, q: &Queue) -> Result<(), Breach>
     Ok(())
 }
 
-// Which rule the next instruction of row t breaks, of whose cell so much is held. The other buffers are searched for an ACQUIRE alone.
+// Which rule an action of row t breaks, of whose cell so much is held; `elsewhere` says whether a store to the cell pends with another thread. Row and
+// holding are two parameters of each rule, as of the definition that its clause names.
+#[tactic(auto, unfolding(crate::specs::Rules::broken_of))]
+pub fn broken(t: usize, h: Held, q: &Queue, elsewhere: bool, action: Action) -> Result<(), Breach>
+    ensures { test_of breach_number result ≡ broken_of t h q.now elsewhere action }
+{
+    match action {
+        Action::Read { .. } => load(t, h),
+        Action::Store { .. } | Action::Swap { .. } => store(t, h),
+        Action::Acquire { .. } => acquire(t, h, elsewhere),
+        Action::Release { .. } => release(t, h, q),
+        Action::Fence | Action::Silent { .. } | Action::End => Ok(()),
+    }
+}
+
+// The same for the next instruction of row t. The other buffers are searched for an ACQUIRE alone.
 #[tactic(auto, unfolding(crate::specs::Rules::broken_of))]
 pub fn allowed(s: &State, t: usize, h: Held, next: Next) -> Result<(), Breach>
     requires { Rows s.now.queues s.now.threads × (t < THREADS) }
     ensures { test_of breach_number result ≡ broken_of t h (queue_of s.now t) (elsewhere_of s.now.queues s.now.threads t next.instruction.cell) next.action }
 {
+    let q = &s.queues[t];
     match next.action {
-        Action::Read { .. } => load(t, h),
-        Action::Store { .. } | Action::Swap { .. } => store(t, h),
-        Action::Acquire { .. } => acquire(
-            t,
-            h,
-            elsewhere::is_elsewhere(s, t, u32::from(next.instruction.cell)),
-        ),
-        Action::Release { .. } => release(t, h, &s.queues[t]),
-        Action::Fence | Action::Silent { .. } | Action::End => Ok(()),
+        Action::Acquire { .. } => {
+            let elsewhere = elsewhere::is_elsewhere(s, t, u32::from(next.instruction.cell));
+            broken(t, h, q, elsewhere, next.action)
+        }
+        _ => broken(t, h, q, false, next.action),
     }
 }

@@ -1,13 +1,15 @@
 // The ownership table and the dirty flag: read for the rules, and put back. Nobody else in this layer indexes them. What an item makes of them is decided in marks.
-ghost use Rattle.std.specs.Prelude.{◌≡◌};
-ghost use Rattle.machine.specs.Look.{Lookable};
+ghost use Rattle.std.specs.Prelude.{◌≡◌, ◌<◌};
+ghost use Rattle.reader.specs.Limits.{THREADS, CELLS};
+ghost use Rattle.machine.specs.Effect.{cell_of};
 ghost use Rattle.discipline.specs.Table.{held_in, holding_of, owned, owns, others, is_local, is_dirty};
 
 use machine::action::Sharing;
 use machine::effect;
 use reader::state::{Instruction, State};
 
-// What is held of the cell that an instruction is about, and the flag of its thread: numbers as they stand in the state, so that what a rule leaves alone is put back as it was.
+// What is held of the cell that an instruction is about, and the flag of its thread: numbers as they stand in the lent state, so that what a rule leaves
+// alone is put back as it was.
 #[derive(Clone, Copy)]
 pub struct Held {
     pub dirty: u32,
@@ -18,7 +20,7 @@ pub struct Held {
 impl Held {
     #[tactic(auto, unfolding(crate::specs::Table::held_of))]
     pub fn of(s: &State, t: usize, i: Instruction) -> Self
-        requires { Lookable t i }
+        requires { (t < THREADS) × (cell_of i < CELLS) }
         ensures { result ≡ held_in s.now t i }
     {
         let c = effect::cell_of(i);
@@ -65,7 +67,7 @@ impl Held {
 // What is then held is put back: the flag of row t, the owner and the sharing mark of the instruction's cell.
 #[tactic(auto, unfolding(crate::specs::Table::holding_of))]
 pub fn put(s: &mut State, t: usize, i: Instruction, h: Held)
-    requires { Lookable t i }
+    requires { (t < THREADS) × (cell_of i < CELLS) }
     ensures { s.new ≡ holding_of s.old t i h }
 {
     let c = effect::cell_of(i);

@@ -1,7 +1,6 @@
 // What an instruction is, once it is looked at: the ten operations are eight actions, and one that is none of the ten is the end of its program.
 // What an action finds and does belongs to effect.
-ghost use Rattle.std.specs.Prelude.{◌≡◌, ◌<◌};
-ghost use Rattle.reader.specs.Limits.{INSTRUCTIONS};
+ghost use Rattle.std.specs.Prelude.{◌≡◌, ◌+◌, ◌^◌, ◌<◌};
 ghost use Rattle.machine.specs.Action.{action_of};
 
 use crate::integer;
@@ -37,7 +36,7 @@ impl Action {
     // What an instruction at a position is, whose register holds so much.
     #[tactic(auto, unfolding(crate::specs::Action::action_of))]
     pub fn of(i: Instruction, at: usize, content: i32) -> Self
-        requires { at < INSTRUCTIONS }
+        requires { at + 1 < 2 ^ 64 }
         ensures { result ≡ action_of i at content }
     {
         let Ok(operation) = Operation::try_from(i.operation) else {
@@ -45,30 +44,20 @@ impl Action {
         };
         let cell = i.cell;
         let next = at + 1;
+        let store = |value| Action::Store { cell, value };
+        let acquire = |sharing| Action::Acquire { cell, sharing };
         match operation {
             Operation::Load => Action::Read { cell },
-            Operation::StoreConstant => Action::Store {
-                cell,
-                value: i.value,
-            },
-            Operation::StoreRegister => Action::Store {
-                cell,
-                value: content,
-            },
+            Operation::StoreConstant => store(i.value),
+            Operation::StoreRegister => store(content),
             Operation::Fence => Action::Fence,
             Operation::CompareSwap => Action::Swap {
                 cell,
                 old: content,
                 new: i.value,
             },
-            Operation::AcquireLocal => Action::Acquire {
-                cell,
-                sharing: Sharing::Local,
-            },
-            Operation::AcquireShared => Action::Acquire {
-                cell,
-                sharing: Sharing::Shared,
-            },
+            Operation::AcquireLocal => acquire(Sharing::Local),
+            Operation::AcquireShared => acquire(Sharing::Shared),
             Operation::Release => Action::Release { cell },
             Operation::Branch if content == i.value => Action::Silent {
                 next: usize::from(cell),

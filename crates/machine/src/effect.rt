@@ -1,4 +1,5 @@
-// What an action finds, what holds it back, and what it does: decided on small values before anything is stored.
+// What an action finds, what holds it back, and what it does: decided on small values before anything is stored. Row and instruction are two parameters,
+// and what has to hold of them stands in the clauses: these functions are for any row and instruction, and a type that only `fetched` makes would ask more.
 ghost use Rattle.std.specs.Prelude.{◌≡◌, ◌+◌, ◌*◌, ◌<◌, ◌≤◌, IsSome};
 ghost use Rattle.reader.specs.Limits.{THREADS, DEPTH, INSTRUCTIONS};
 ghost use Rattle.reader.specs.State.{code_place, register_place, queue_of};
@@ -20,8 +21,6 @@ pub struct Seen {
     pub word: i32,
 }
 
-// Rows are plain numbers, and an instruction and its row two parameters: a type that keeps `t < THREADS` or `Lookable t i` would be made at each
-// call and taken apart again at each index and in each clause.
 impl Seen {
     // What instruction i of row t finds.
     #[tactic(auto, unfolding(crate::specs::Effect::seen_of))]
@@ -47,7 +46,7 @@ pub struct Effect {
     pub pushed: Option<i32>,
 }
 
-// The cell that an instruction is about; a BRANCH has its target in that place.
+// The cell that an instruction is about; a BRANCH has its target in that place, and is about cell 0, whose word it puts back.
 pub fn cell_of(i: Instruction) -> usize
     ensures { result ≡ cell_of i }
 {

@@ -51,7 +51,8 @@ impl Machine for OneMemory {
     }
 }
 
-// A whole order of threads, until the first that is at its end. One value for each step. The one run, said in this machine's words.
+// A whole order of threads, until the first that is at its end. One value for each step. The one run, for the orders
+// and threads that this contract promises.
 pub fn ran(s: &mut State, order: &[u8], values: &mut [i32]) -> Ended<Hurdle>
     requires { InRange s.old × (Threads s.old.threads order.now × (length order.now ≤ length values.old)) }
     ensures { Answers plain_of s.old order.now values.old (ran_of number_of s.new result) values.new }

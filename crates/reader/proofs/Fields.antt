@@ -11,7 +11,7 @@ use Rattle.reader.specs.Reading.{Judged}
 use Rattle.reader.specs.Rules.{pick}
 use Rattle.reader.specs.Case.{refuse, next, fine, and_then, need, verdict_of, field, whole}
 
--- l bytes are left from p on, and r is what the code answers
+-- l bytes are left from p on, and r is a verdict
 module _ (s : List ℕ) (n number p wrong : ℕ) {l : ℕ} {r : Judged} (e : l ≡ length s - p) where
   pub field_short : l < n → r ≡ refuse 5 p → r ≡ field s n number p wrong
   unfolding field

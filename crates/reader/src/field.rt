@@ -1,4 +1,5 @@
-// A field of a case: whether it is wholly there, and a count within its limits. A field that is fine gives where the next one begins.
+// A field of a case: whether it is wholly there, and a count within its limits. A field that is fine gives where the next one begins. Case and place are
+// two parameters throughout the reader: a cursor would hold the place, and each clause would need a second equation for it.
 ghost use Rattle.std.specs.Prelude.{◌≡◌, ◌+◌, ◌-◌, ◌<◌, ◌≤◌, length, IfOk, IfErr};
 ghost use Rattle.reader.specs.Bytes.{byte};
 ghost use Rattle.reader.specs.Case.{count_judged};

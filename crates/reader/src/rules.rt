@@ -75,5 +75,5 @@ pub fn instruction_wrong(cells: usize, count: usize, i: Instruction) -> Option<u
 pub fn item_fits(threads: usize, x: usize) -> bool
     ensures { result ≡ item_fits threads x }
 {
-    (1..=threads).contains(&x) || (17 <= x && x - 16 <= threads)
+    (1..=threads).contains(&x) || (1..=threads).contains(&x.saturating_sub(16))
 }

@@ -153,7 +153,7 @@ impl State {
         self.memory[oldest.cell as usize] = oldest.value;
     }
 
-    // The same by value.
+    // The same by value: the form that the rules of this project name for a drain.
     pub fn drained(self, t: usize) -> State
         requires { Drainable self t }
         ensures { result ≡ drained_of self t }

@@ -46,10 +46,7 @@ fn queue_fits(cells: usize, depth: usize, q: &Queue) -> bool
     requires { depth ≤ DEPTH }
     ensures { result ≡ queue_fits cells depth q.now }
 {
-    q.count <= depth
-        && q.entries[..q.count]
-            .iter()
-            .all(|e| (e.cell as usize) < cells)
+    q.count <= depth && q.pending().iter().all(|e| (e.cell as usize) < cells)
 }
 
 // Program, buffer and position of row t.

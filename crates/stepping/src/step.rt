@@ -1,4 +1,4 @@
-// The stepping call by value: a state and an item byte, whatever they hold. 10 first, then 8, then as a run of that one item.
+// The stepping call by value: a state and an item byte, whatever they hold. 10 first, then 8, then the checked step; 10 and 8 are numbers of this call alone.
 ghost use Rattle.std.specs.Prelude.{◌≡◌};
 ghost use Rattle.reader.specs.Range.{Shaped};
 ghost use Rattle.stepping.specs.Step.{answer_to, stepped_of};
@@ -7,7 +7,7 @@ ghost use Rattle.stepping.specs.declared.step.Refusal.TheVariants.{Stopped};
 use crate::range;
 use discipline::breach::Reason;
 use discipline::check::Answer;
-use discipline::{check, step};
+use discipline::step;
 use reader::rules;
 use reader::state::State;
 
@@ -46,11 +46,7 @@ fn answered(item: u8, taken: Result<(), Refusal>) -> Answer
         Ok(()) => Answer::of(0, 1),
         Err(Refusal::OutOfRange) => Answer::of(10, 0),
         Err(Refusal::NoItem) => Answer::of(8, 0),
-        Err(Refusal::Stopped(reason)) => Answer {
-            place: 0,
-            number: u32::from(reason),
-            thread: check::thread(item),
-        },
+        Err(Refusal::Stopped(reason)) => Answer::stopped(reason, 0, item),
     }
 }
 

@@ -34,7 +34,8 @@ fn judge_next(length: usize) -> Result<(), CutShort> {
     Ok(())
 }
 
-// Goes on behind so many bytes, or to the end of the input. A `while`, since only the input says after how many turns: a `for` would need a bound made up for it.
+// Goes on behind so many bytes, or to the end of the input. A `while`: each
+// turn takes off what `dropped` gives, whose clause shows that nothing of the next case is read away.
 fn pass_over(bytes: usize) {
     let mut left = bytes;
     while left > 0 {

@@ -17,7 +17,7 @@ returns-in_err-allowed c =
     rw (p.1, p.2) (held_checked c.args.s.now c.args.t (held_step c.in_ok-next.ensures.next _ c.in_err-allowed.ensures) (hurdle_nonzero _))
 
 pub of-held-requires : goal.of-held-requires
-of-held-requires c = found_lookable c.requires.0.in_range c.requires.1 c.in_ok-next.ensures.next
+of-held-requires c = let l = found_lookable c.requires.0.in_range c.requires.1 c.in_ok-next.ensures.next in (l.thread, l.cell)
 
 pub returns-in_err-allowed-2 : goal.returns-in_err-allowed-2
 returns-in_err-allowed-2 c =
@@ -25,7 +25,7 @@ returns-in_err-allowed-2 c =
     rw (p.1, p.2) (breaks_checked c.in_ok-next.ensures.next (sym c.in_ok-allowed.ensures) (rw c.of-held.ensures at c.in_err-allowed-2.ensures) (breach_nonzero _))
 
 pub put-requires : goal.put-requires
-put-requires c = found_lookable c.requires.0.in_range c.requires.1 c.in_ok-next.ensures.next
+put-requires c = let l = found_lookable c.requires.0.in_range c.requires.1 c.in_ok-next.ensures.next in (l.thread, l.cell)
 
 pub returns : goal.returns
 returns c =
