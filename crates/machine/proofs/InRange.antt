@@ -1,11 +1,11 @@
 -- In range is kept by every item, on both machines, and so are the sizes.
 use Rattle.std.proofs.Common.{◌≡◌, ℕ, zero, suc, ◌-◌, ◌<◌, ◌≤◌, Bool, true, false, eqb, ltb, leb, refl, subst, arith, ltb-false, ltb-true, lt-ltb, leb-false, leb-true}
+use Rattle.std.proofs.lemmas.Bool.{false≢true}
 use Rattle.reader.specs.declared.state.State.{State}
 use Rattle.reader.specs.State.{no_queue, queue_of, position_of, count_of, register_of}
 use Rattle.reader.specs.Rules.{pick, item_fits}
 use Rattle.reader.specs.Drain.{drained_of}
 use Rattle.reader.specs.Range.{InRange}
-use Rattle.std.proofs.lemmas.Bool.{false≢true}
 use Rattle.machine.specs.Action.{action_of, current_of, next_of}
 use Rattle.machine.specs.Effect.{seen_of, guard, blocked_of, effect_of, took_of}
 use Rattle.machine.specs.Run.{Outcome, unless}

@@ -1,10 +1,10 @@
 -- The next instruction of a thread on the one-memory machine, as the code carries it out.
 use Rattle.std.proofs.Common.{◌≡◌, ℕ, ◌<◌, ◌≤◌, true, sym, refl}
+use Rattle.std.proofs.lemmas.Bool.{false≢true}
 use Rattle.reader.specs.declared.state.Queue.{Queue}
 use Rattle.reader.specs.declared.state.State.{State}
 use Rattle.reader.specs.State.{no_queue, position_of, count_of}
 use Rattle.reader.specs.Range.{InRange}
-use Rattle.std.proofs.lemmas.Bool.{false≢true}
 use Rattle.machine.specs.declared.hurdle.Hurdle.{Hurdle}
 use Rattle.machine.specs.declared.step.Next.{Next}
 use Rattle.machine.specs.Hurdle.{number_of}

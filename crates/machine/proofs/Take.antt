@@ -1,6 +1,7 @@
 -- The next instruction of a thread: what the code looks at, decides and stores is the step of the definition.
 use Rattle.std.specs.Prelude.{IsSome}
 use Rattle.std.proofs.Common.{ap, ◌≡◌, ℕ, zero, suc, ◌+◌, ◌-◌, ◌<◌, ◌≤◌, Bool, true, false, ◌||◌, eqb, leb, ◌⊎◌, sym, refl, ◌∙◌, subst, inl, inr, ⊎_elim, arith, le-ltb, lt-ltb, leb-false, leb-true}
+use Rattle.std.proofs.lemmas.Bool.{false≢true}
 use borrow.Author.Tests.{eqb-false}
 use Rattle.reader.specs.declared.state.Queue.{Queue}
 use Rattle.reader.specs.declared.state.Instruction.{Instruction}
@@ -12,7 +13,6 @@ use Rattle.reader.specs.State.{queue_of, position_of, count_of}
 use Rattle.reader.specs.Rules.{pick, within, BRANCH, item_fits, item_of}
 use Rattle.reader.specs.Drain.{Drainable}
 use Rattle.reader.specs.Range.{InRange}
-use Rattle.std.proofs.lemmas.Bool.{false≢true}
 use Rattle.reader.proofs.Tests.{within_true}
 use Rattle.reader.proofs.Instructions.{InstructionIn, instruction_in}
 use Rattle.machine.specs.declared.effect.Seen.{Seen}

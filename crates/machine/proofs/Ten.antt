@@ -1,9 +1,9 @@
 -- The ten operations, one by one: each of them is an action.
 use Rattle.std.proofs.Common.{◌≡◌, ℕ, zero, suc, ◌+◌, ◌<◌, ◌≤◌, Bool, true, false, [], ◌∷◌, get_or, ℤ, refl, arith}
+use Rattle.std.proofs.lemmas.Bool.{false≢true}
 use Rattle.reader.specs.declared.state.Instruction.{Instruction}
 use Rattle.reader.specs.declared.state.Queue.{Queue}
 use Rattle.reader.specs.Rules.{pick, BRANCH}
-use Rattle.std.proofs.lemmas.Bool.{false≢true}
 use Rattle.reader.proofs.Instructions.{InstructionIn}
 use Rattle.machine.specs.declared.effect.Seen.{Seen}
 use Rattle.machine.specs.Integer.{eq_z}

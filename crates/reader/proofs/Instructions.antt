@@ -6,11 +6,11 @@ use native.Mathlib.Omega.{arith}
 use lib.Dec.{eqb, ltb}
 use lib.IntN.{ℤ, pos, negsuc}
 use borrow.Author.Tests.{ltb-true, eqb-true, eq-eqb, ne_eqb}
+use Rattle.std.proofs.lemmas.Bool.{false≢true}
 use Rattle.reader.specs.declared.state.Instruction.{Instruction}
 use Rattle.reader.specs.Limits.{REGISTERS}
 use Rattle.reader.specs.Operations.{OPERATIONS, CELL, REGISTER, VALUE, uses_of}
 use Rattle.reader.specs.Rules.{pick, check, within, fits_of, BRANCH, bound_of, is_zero, cell_fits, register_fits, value_fits, instruction_bytes, instruction_wrong}
-use Rattle.std.proofs.lemmas.Bool.{false≢true}
 use Rattle.reader.proofs.Tests.{within_true}
 
 pub record InstructionIn (cells count : ℕ) (i : Instruction) : Type 0 where

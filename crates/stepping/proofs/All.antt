@@ -21,8 +21,8 @@ use Rattle.std.proofs.lemmas.Iterator.Search.{all_from_yields_List}
 use Rattle.std.proofs.lemmas.List.{take_all, length-take}
 use Rattle.std.proofs.lemmas.List.Folds.{list_all_more}
 use Rattle.std.proofs.lemmas.List.FromFn.{length-range_with_len, get_or-range_with_len}
-use Rattle.reader.specs.Rules.{pick}
 use Rattle.std.proofs.lemmas.Bool.{false≢true}
+use Rattle.reader.specs.Rules.{pick}
 use Rattle.stepping.specs.Range.{all_below}
 
 module _ (test : ℕ → Bool) where

@@ -1,9 +1,9 @@
 -- Places beyond the counts are not judged: states that are the same within them are in range alike.
 use mathlib.Core.Bool.{Bool, true, false}
 use mathlib.Core.Path.{◌≡◌, refl, sym, ◌∙◌}
+use Rattle.std.proofs.lemmas.Bool.{false≢true}
 use Rattle.reader.specs.declared.state.State.{State}
 use Rattle.reader.specs.Range.{InRange}
-use Rattle.std.proofs.lemmas.Bool.{false≢true}
 use Rattle.stepping.specs.Range.{in_range_of}
 use Rattle.stepping.specs.Beyond.{Alike}
 use Rattle.stepping.proofs.Exact.{range_in, in_range}

@@ -5,10 +5,10 @@ use mathlib.Core.Path.{◌≡◌, refl, sym, ap, ◌∙◌}
 use native.Mathlib.Omega.{arith}
 use lib.Dec.{eqb}
 use borrow.Author.Tests.{eqb-true, eqb-false}
+use Rattle.std.proofs.lemmas.Bool.{false≢true}
 use Rattle.reader.specs.declared.state.State.{State}
 use Rattle.reader.specs.Rules.{item_fits}
 use Rattle.reader.specs.Range.{InRange}
-use Rattle.std.proofs.lemmas.Bool.{false≢true}
 use Rattle.machine.specs.declared.action.Action.{Action}
 use Rattle.discipline.specs.Check.{answer, thread_of}
 use Rattle.discipline.specs.Meaning.{Against, at_end, fence_waits, swap_waits, buffer_full, load_local, load_dirty, store_others, swap_others, acquire_owned, acquire_pending, release_others, release_waits, Stops, stops_take, stops_drain}

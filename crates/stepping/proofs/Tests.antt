@@ -3,8 +3,8 @@ use Prim.Native.Nat.{ℕ, ◌≤◌}
 use mathlib.Core.Bool.{true}
 use mathlib.Core.Path.{◌≡◌}
 use borrow.Author.Tests.{le-leb}
-use Rattle.reader.specs.Rules.{within}
 use Rattle.std.proofs.lemmas.Bool.{and_from}
+use Rattle.reader.specs.Rules.{within}
 
 pub true_within : {low high x : ℕ} → low ≤ x → x ≤ high → within low high x ≡ true
 unfolding within
