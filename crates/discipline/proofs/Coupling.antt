@@ -9,12 +9,13 @@ use native.Mathlib.Nat.{suc-ne-zero}
 use lib.Dec.{eqb}
 use lib.IntN.{ℤ}
 use borrow.Author.Tests.{eqb-true, eq-eqb}
+use Rattle.std.proofs.lemmas.Bool.{or_left, or_right}
 use Rattle.reader.specs.declared.state.Pending.{Pending}
 use Rattle.discipline.specs.Order.{busy, quiet, stored, drains}
 use Rattle.discipline.proofs.Maps.{upd, upd_same, upd_other, at_or}
 use Rattle.discipline.proofs.Abstract.{Act, stays, loads, stores, fences, swaps, acquires, releases, Table, enter, Machine, Plain, drained, pends, act, with_thread, Open, dirtied, plan}
 use Rattle.discipline.proofs.Abstract.{Readable, own, shared, Takes, t_silent, t_load, t_store, t_fence, t_swap, t_acquire, t_release, Drains, t_drain}
-use Rattle.discipline.proofs.Waiting.{calm_busy, suc_open, zero_open, or_left, or_right, undirtied, stable, early, late, Agree, pends_snoc, upd_at, drained_at, drained_split, drained_snoc, one, solo, To, rest, done, end, link, Fits}
+use Rattle.discipline.proofs.Waiting.{calm_busy, suc_open, zero_open, undirtied, stable, early, late, Agree, pends_snoc, upd_at, drained_at, drained_split, drained_snoc, one, solo, To, rest, done, end, link, Fits}
 use Rattle.discipline.proofs.Waiting.{waits_early, fits_keep, fits_skip, calm_loc, calm_move, calm_push, fits_push, fits_bump, empty_counts, empty_fits}
 
 module _ {L : Type 0} (next : L → Act L) where

@@ -24,14 +24,6 @@ module _ (s : State) (t : ℕ) where
   unfolding take_step
   taken_machine z = unless_zero s _ z
 
-  refused_machine : (blocked_of s.depth (queue_of s t) (next_of s t) ≡ 0 → ⊥) → take_step s t ≡ refused_of s (blocked_of s.depth (queue_of s t) (next_of s t))
-  unfolding take_step
-  refused_machine z = unless_not _ s _ z
-
-  blocked_checked : (blocked_of s.depth (queue_of s t) (next_of s t) ≡ 0 → ⊥) → refused_of s (blocked_of s.depth (queue_of s t) (next_of s t)) ≡ checked_take s t
-  unfolding checked_take
-  blocked_checked n = rw (refused_machine n) (sym (unless_not _ s _ n))
-
   broken_checked : blocked_of s.depth (queue_of s t) (next_of s t) ≡ 0 → (next_broken s t ≡ 0 → ⊥) → refused_of s (next_broken s t) ≡ checked_take s t
   unfolding checked_take
   broken_checked z n = rw (taken_machine z) (sym (unless_zero s _ refl ∙ unless_not _ s _ n))

@@ -1,22 +1,18 @@
 -- What an item that is taken keeps: a state that can be run on, with the same programs and as many threads.
-use Prim.Native.Nat.{ℕ, zero, suc, ◌+◌, ◌-◌, ◌<◌}
-use mathlib.Core.Bool.{Bool, true, false}
+use Prim.Native.Nat.{ℕ, ◌+◌, ◌<◌}
+use mathlib.Core.Bool.{true}
 use mathlib.Core.Path.{◌≡◌, refl, ◌∙◌}
 use native.Mathlib.Omega.{arith}
 use Rattle.reader.specs.declared.state.State.{State}
-use lib.Dec.{eqb, leb}
-use Rattle.reader.specs.State.{queue_of, position_of, count_of}
-use Rattle.reader.specs.Rules.{pick, item_fits}
+use Rattle.reader.specs.State.{position_of, count_of}
+use Rattle.reader.specs.Rules.{item_fits}
 use Rattle.reader.specs.Drain.{drained_of}
-use Rattle.machine.specs.Effect.{guard, blocked_of, took_of}
-use Rattle.machine.specs.Step.{take_step, drain_step}
-use Rattle.machine.specs.Run.{Outcome, unless}
-use Rattle.machine.proofs.PlainRun.{unless_stays}
+use Rattle.machine.specs.Effect.{blocked_of, took_of}
 use Rattle.machine.proofs.Take.{next_end, by_kind}
 use Rattle.machine.proofs.InRange.{at_end_or}
 use Rattle.discipline.specs.Table.{holding_of}
 use Rattle.discipline.specs.Run.{Runnable, IsItem}
-use Rattle.discipline.specs.Step.{next_broken, checked_take, checked_of}
+use Rattle.discipline.specs.Step.{checked_of}
 use Rattle.discipline.proofs.Sound.{drained_sound, took_sound}
 use Rattle.discipline.proofs.Outcomes.{pending_there, drain_taken, neither, instruction_taken}
 
@@ -52,27 +48,6 @@ module _ {s : State} (g : Runnable s) where
   pub checked_keeps : (x : ℕ) → item_fits s.threads x ≡ true → (checked_of s x).number ≡ 0 → Keeps s (checked_of s x).state
   checked_keeps = by_kind s.threads g.in_range.threads (λ x. (checked_of s x).number ≡ 0 → Keeps s (checked_of s x).state) (λ t h z. drain_keeps h z) (λ t h z. take_keeps h z)
 
--- an item that is right stays one, and one that is not taken leaves the state
+-- an item that is right stays one
 pub item_keeps : (s : State) (x y : ℕ) → IsItem s x → IsItem s y → (checked_of s x).number ≡ 0 → IsItem (checked_of s x).state y
 item_keeps s x y a b z = let k = checked_keeps a.runnable x a.fits z in record { runnable = k.runnable; fits = rw k.threads b.fits }
-
-unless_both_stay : (n m : ℕ) (s : State) (o : Outcome) → o.number ≡ 0 → ((unless n s (unless m s o)).number ≡ 0 → ⊥) → (unless n s (unless m s o)).state ≡ s
-unfolding unless
-unless_both_stay zero m s o z h = unless_stays m s o z h
-unless_both_stay (suc n) m s o z h = refl
-
-take_stays : (s : State) (t : ℕ) → ((checked_take s t).number ≡ 0 → ⊥) → (checked_take s t).state ≡ s
-unfolding checked_take
-take_stays s t h = unless_both_stay (take_step s t).number (next_broken s t) s _ refl h
-
-drain_stays : (s : State) (t : ℕ) → ((drain_step s t).number ≡ 0 → ⊥) → (drain_step s t).state ≡ s
-unfolding drain_step
-drain_stays s t h = unless_stays (guard (eqb (queue_of s t).count 0) 23 0) s _ refl h
-
-pub item_stays : (s : State) (x : ℕ) → ((checked_of s x).number ≡ 0 → ⊥) → (checked_of s x).state ≡ s
-unfolding checked_of
-item_stays s x = go (leb 17 x)
-  where
-    go : (b : Bool) → ((pick b (drain_step s (x - 17)) (checked_take s (x - 1))).number ≡ 0 → ⊥) → (pick b (drain_step s (x - 17)) (checked_take s (x - 1))).state ≡ s
-    go true h = drain_stays s (x - 17) h
-    go false h = take_stays s (x - 1) h

@@ -8,10 +8,10 @@ use lib.ListN.{length, take, get_or}
 use lib.Dec.{eqb, leb}
 use lib.IntN.{ℤ}
 use borrow.Author.Tests.{not-true, eqb-true, eqb-false, leb-true, leb-false, eq-eqb, ne_eqb}
+use Rattle.std.proofs.lemmas.Bool.{and_parts, false≢true}
 use Rattle.reader.specs.declared.state.State.{State}
 use Rattle.reader.specs.State.{queue_of}
 use Rattle.reader.specs.Rules.{pick}
-use Rattle.reader.proofs.Tests.{false_true}
 use Rattle.machine.specs.declared.action.Action.{Action}
 use Rattle.machine.specs.declared.action.Sharing.{Sharing}
 use Rattle.machine.specs.declared.action.Action.TheVariants.{Read, Store, Fence, Swap, Acquire, Release, Silent, End}
@@ -36,7 +36,7 @@ never h = record { stands = λ z. absurd (z refl); smallest = λ m r. absurd (h 
 one : {R : ℕ → Type 0} (b : Bool) (n : ℕ) → 0 < n → (b ≡ true → R n) → ((m : ℕ) → R m → (b ≡ true) × (m ≡ n)) → Judges R (guard b n 0)
 unfolding guard
 one true n l h k = record { stands = λ z. h refl; smallest = λ m r. (λ z. omega arith, let e = (k m r).1 in omega arith) }
-one false n l h k = record { stands = λ z. absurd (z refl); smallest = λ m r. absurd (false_true (k m r).0) }
+one false n l h k = record { stands = λ z. absurd (z refl); smallest = λ m r. absurd (false≢true (k m r).0) }
 
 -- what the machine says comes first
 judged_guard : (b : Bool) (n m : ℕ) → 0 < n → judged_of (guard b n 0) m ≡ guard b n m
@@ -58,17 +58,13 @@ two true d n k l o h g e = record { stands = λ z. h refl; smallest = λ m r. (�
 two false true n k l o h g e = record { stands = λ z. g refl; smallest = λ m r. (λ z. omega arith, low (e m r)) }
   where
     low : {m : ℕ} → Either false true n k m → k ≤ m
-    low (first b q) = absurd (false_true b)
+    low (first b q) = absurd (false≢true b)
     low (second b q) = omega arith
 two false false n k l o h g e = record { stands = λ z. absurd (z refl); smallest = λ m r. absurd (none (e m r)) }
   where
     none : {m : ℕ} → Either false false n k m → ⊥
-    none (first b q) = false_true b
-    none (second b q) = false_true b
-
-split_and : (a b : Bool) → (a && b) ≡ true → (a ≡ true) × (b ≡ true)
-split_and true b e = (refl, e)
-split_and false b e = absurd (false_true e)
+    none (first b q) = false≢true b
+    none (second b q) = false≢true b
 
 module _ (s : State) (t : ℕ) where
   abbrev pub judged_as : Action → ℕ
@@ -107,7 +103,7 @@ module _ (s : State) (t : ℕ) where
   unfolding blocked_of broken_of load_breaks store_breaks acquire_breaks release_breaks
   judges (Read c) =
       two _ _ 30 31 (omega arith) (omega arith)
-      (λ e. let b = split_and _ _ e in load_local (not-true _ b.0) b.1) (λ e. let b = split_and _ _ e in let d = split_and _ _ b.1 in load_dirty (not-true _ b.0) (not-true _ d.0) d.1) read_cases
+      (λ e. let b = and_parts _ _ e in load_local (not-true _ b.0) b.1) (λ e. let b = and_parts _ _ e in let d = and_parts _ _ b.1 in load_dirty (not-true _ b.0) (not-true _ d.0) d.1) read_cases
   judges (Store c x) = rw (judged_guard (leb s.depth (queue_of s t).count) 22 (guard (others (next_held s t) t) 32 0) (omega arith)) (two _ _ 22 32 (omega arith) (omega arith) buffer_full store_others store_cases)
   judges Fence = rw (judged_guard (pends (queue_of s t)) 21 0 (omega arith)) (one _ 21 (omega arith) fence_waits fence_cases)
   judges (Swap c old x) = rw (judged_guard (pends (queue_of s t)) 21 (guard (others (next_held s t) t) 32 0) (omega arith)) (two _ _ 21 32 (omega arith) (omega arith) swap_waits swap_others swap_cases)

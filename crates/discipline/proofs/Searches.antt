@@ -1,12 +1,21 @@
 -- The searches of rule 34, as the code makes them: a row's from its newest store back, and over the rows in any order.
-use Rattle.std.proofs.Common.{◌≡◌, ℕ, zero, suc, ◌+◌, ◌<◌, ◌≤◌, Bool, true, false, eqb, List, length, get_or, take, sym, refl, arith, length-take, eq-eqb, ne_eqb}
+use Rattle.std.proofs.Common.{◌≡◌, ◌∙◌, ap, ℕ, zero, suc, ◌+◌, ◌<◌, ◌≤◌, Bool, true, false, ◌||◌, eqb, List, length, get_or, take, sym, refl, arith, length-take}
 use Rattle.std.specs.Prelude.{cond, Some, option_map, is_some, reverse}
-use Rattle.std.specs.List.{find}
-use native.Mathlib.Numerals.{add-one}
-use native.Mathlib.Decide.{ℕ_discrete}
+use Rattle.std.specs.List.{find, list_any, range_with_len}
+use native.Mathlib.Numerals.{unary_clauses}
+use denote.Param.Members.{Mut}
+use Rattle.std.specs.declared.ops.Range.{Range}
+use Rattle.std.specs.Fn.{Called}
+use Rattle.std.specs.Iterator.{ChecksAny}
+use Rattle.std.proofs.iter.Yields.{nat_range_steps}
+use Rattle.std.proofs.lemmas.Iterator.{YieldsList-from_range}
+use Rattle.std.proofs.lemmas.Iterator.Search.{any_from_yields_List}
+use Rattle.std.proofs.lemmas.List.{take_all}
+use Rattle.std.proofs.lemmas.List.Folds.{list_any_more}
+use Rattle.std.proofs.lemmas.List.FromFn.{length-range_with_len, get_or-range_with_len}
 use Rattle.reader.specs.declared.state.Pending.{Pending}
 use Rattle.reader.specs.declared.state.Queue.{Queue}
-use Rattle.reader.specs.State.{no_pending, outside_queue}
+use Rattle.reader.specs.State.{no_pending}
 use Rattle.reader.specs.Queue.{pending}
 use Rattle.reader.specs.Rules.{pick}
 use Rattle.machine.specs.Buffer.{newest_in}
@@ -28,33 +37,23 @@ holds_newest q c h = let l = length-take q.count q.entries in sym (holds_slice q
 
 -- the rows, from the first on
 module _ (qs : List Queue) (t c : ℕ) where
-  -- nothing pends with the rows so far, nor with the next
-  pub none_more : (n : ℕ) → elsewhere_of qs n t c ≡ false → pends_with qs t c n ≡ false → elsewhere_of qs (n + 1) t c ≡ false
+  rows_below : (xs : List ℕ) (n : ℕ) → n ≤ length xs → ((k : ℕ) → k < n → get_or xs k 0 ≡ k) → list_any (pends_with qs t c) (take n xs) ≡ elsewhere_of qs n t c
   unfolding elsewhere_of
-  none_more n e p = rw (add-one, p, e) refl
-
-  -- something pends with one of them
-  pub found_one : (n u : ℕ) → u < n → pends_with qs t c u ≡ true → elsewhere_of qs n t c ≡ true
-  unfolding elsewhere_of
-  found_one zero u l p = absurd (omega arith)
-  found_one (suc n) u l p = go (ℕ_discrete u n) (found_one n u)
+  rows_below xs zero l h = refl
+  rows_below xs (suc n) l h =
+      let e : list_any (pends_with qs t c) (take (n + 1) xs) ≡ (list_any (pends_with qs t c) (take n xs) || pends_with qs t c (get_or xs n 0)) = list_any_more (pends_with qs t c) xs n 0 (omega arith) in
+      simp unary_clauses at e ∙ turned (list_any (pends_with qs t c) (take n xs)) (pends_with qs t c (get_or xs n 0)) ∙ rw (h n (omega arith), rows_below xs n (omega arith) (λ k s. h k (omega arith)))
     where
-      later : (b : Bool) → elsewhere_of qs n t c ≡ true → pick b true (elsewhere_of qs n t c) ≡ true
-      later true e = refl
-      later false e = e
+      turned : (a b : Bool) → (a || b) ≡ pick b true a
+      turned true true = refl
+      turned true false = refl
+      turned false true = refl
+      turned false false = refl
 
-      go : Dec (u ≡ n) → (u < n → pends_with qs t c u ≡ true → elsewhere_of qs n t c ≡ true) → pick (pends_with qs t c n) true (elsewhere_of qs n t c) ≡ true
-      go (yes z) f = rw (← z, p) refl
-      go (no z) f = later (pends_with qs t c n) (f (omega arith) p)
-
-  -- no row at all
-  pub none_yet : elsewhere_of qs 0 t c ≡ false
-  unfolding elsewhere_of
-  none_yet = refl
-
-  -- the row is the thread's own, or holds nothing to the cell
-  pub own_pends : (u : ℕ) → u ≡ t → pends_with qs t c u ≡ false
-  own_pends u e = rw (eq-eqb u t e) refl
-
-  pub other_pends : (u : ℕ) {b : Bool} → (u ≡ t → ⊥) → holds (get_or qs u outside_queue) c ≡ b → pends_with qs t c u ≡ b
-  other_pends u n e = rw (ne_eqb u t n, e) refl
+  -- what the library's `any` answers
+  pub elsewhere_from_range : {F : Type 0} {f : F} {r : Bool} {g : Mut F (ℕ × Unit {0}) Bool} (n : ℕ) {u : Range ℕ} → ChecksAny nat_range_steps g (record { start = 0; end = n }) f r u
+      → ((k : ℕ) (b : Bool) (q : F) → Called g f (k, tt) b q → (q ≡ f) × (b ≡ pends_with qs t c k)) → r ≡ elsewhere_of qs n t c
+  elsewhere_from_range {f = f} {r} n {u} a s =
+      let e : length (range_with_len 0 n) ≡ n = length-range_with_len 0 n in
+      any_from_yields_List (pends_with qs t c) u f r a (YieldsList-from_range 0 n n refl (omega arith)) s ∙ ap (list_any (pends_with qs t c)) (sym (take_all n _ (omega arith)))
+      ∙ rows_below (range_with_len 0 n) n (omega arith) (λ k h. omega (arith, get_or-range_with_len 0 n k 0 h))

@@ -8,6 +8,8 @@ use native.Mathlib.Nat.{suc_inj, suc-ne-zero}
 use lib.Dec.{eqb}
 use lib.IntN.{ℤ}
 use borrow.Author.Tests.{eqb-true, eq-eqb}
+use Rattle.std.proofs.Common.{⊎_elim}
+use Rattle.std.proofs.lemmas.Bool.{or_left, or_right, or_cases}
 use Rattle.reader.specs.declared.state.Pending.{Pending}
 use Rattle.discipline.specs.Order.{busy, bump}
 use Rattle.discipline.proofs.Maps.{upd, upd_other}
@@ -24,17 +26,6 @@ suc_open i o e j e' = suc_inj (sym e' ∙ e)
 
 pub zero_open : (i o : ℕ) → o ≡ 0 → Open i o
 zero_open i o e j e' = absurd (suc-ne-zero j (sym e' ∙ e))
-
-or_elim : {P : Type 0} (a b : Bool) → a || b ≡ true → (a ≡ true → P) → (b ≡ true → P) → P
-or_elim true b e f g = f refl
-or_elim false b e f g = g e
-
-pub or_left : (a b : Bool) → a ≡ true → a || b ≡ true
-or_left a b e = rw e
-
-pub or_right : (a b : Bool) → b ≡ true → a || b ≡ true
-or_right true b e = refl
-or_right false b e = e
 
 pub undirtied : (d a b : Bool) → d || not (a && b) ≡ false → (d ≡ false) × (a ≡ true) × (b ≡ true)
 undirtied true a b e = absurd (true≢false e)
@@ -64,11 +55,12 @@ abbrev pub Agree : (ℕ → Bool) → (ℕ → ℤ) → (ℕ → ℤ) → Type 0
 Agree S m m' = (c : ℕ) → S c ≡ true → m c ≡ m' c
 
 pub pends_snoc : {P : ℕ → Type 0} (q : List Pending) (x : Pending) → ((c : ℕ) → pends q c ≡ true → P c) → P x.cell → (c : ℕ) → pends (q ++ x ∷ []) c ≡ true → P c
-pends_snoc {P} [] x h p c z = or_elim (eqb x.cell c) false z (λ a. subst P (eqb-true _ _ a) p) (λ a. absurd (false≢true a))
+pends_snoc {P} [] x h p c z = ⊎_elim (λ a. subst P (eqb-true _ _ a) p) (λ a. absurd (false≢true a)) (or_cases (eqb x.cell c) false z)
 pends_snoc (y ∷ q) x h p c z =
-    or_elim (eqb y.cell c) (pends (q ++ x ∷ []) c) z
+    ⊎_elim
     (λ a. h c (or_left _ _ a))
     (λ a. pends_snoc q x (λ c' z'. h c' (or_right (eqb y.cell c') _ z')) p c a)
+    (or_cases (eqb y.cell c) (pends (q ++ x ∷ []) c) z)
 
 pub upd_at : (m m' : ℕ → ℤ) (c : ℕ) (v : ℤ) (x : ℕ) → m x ≡ m' x → upd m c v x ≡ upd m' c v x
 unfolding upd

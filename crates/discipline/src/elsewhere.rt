@@ -15,15 +15,10 @@ pub fn is_pending(q: &Queue, cell: u32) -> bool
     buffer::newest(q.pending(), cell).is_some()
 }
 
-// Whether a store to the cell pends with a thread but that of row t. A loop, since the proof of `any` does not see through a test that asks something of its row.
+// Whether a store to the cell pends with a thread but that of row t.
 pub fn is_elsewhere(s: &State, t: usize, cell: u32) -> bool
     requires { Rows s.now.queues s.now.threads }
     ensures { result ≡ elsewhere_of s.now.queues s.now.threads t cell }
 {
-    for u in 0..s.threads {
-        if u != t && is_pending(&s.queues[u], cell) {
-            return true;
-        }
-    }
-    false
+    (0..s.threads).any(|u| u != t && is_pending(&s.queues[u], cell))
 }

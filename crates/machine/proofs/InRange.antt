@@ -1,11 +1,11 @@
 -- In range is kept by every item, on both machines, and so are the sizes.
 use Rattle.std.proofs.Common.{◌≡◌, ℕ, zero, suc, ◌-◌, ◌<◌, ◌≤◌, Bool, true, false, eqb, ltb, leb, refl, subst, arith, ltb-false, ltb-true, lt-ltb, leb-false, leb-true}
+use Rattle.std.proofs.lemmas.Bool.{false≢true}
 use Rattle.reader.specs.declared.state.State.{State}
 use Rattle.reader.specs.State.{no_queue, queue_of, position_of, count_of, register_of}
 use Rattle.reader.specs.Rules.{pick, item_fits}
 use Rattle.reader.specs.Drain.{drained_of}
 use Rattle.reader.specs.Range.{InRange}
-use Rattle.reader.proofs.Tests.{false_true}
 use Rattle.machine.specs.Action.{action_of, current_of, next_of}
 use Rattle.machine.specs.Effect.{seen_of, guard, blocked_of, effect_of, took_of}
 use Rattle.machine.specs.Run.{Outcome, unless}
@@ -54,7 +54,7 @@ module _ {s : State} (g : InRange s) {t : ℕ} (h : t < s.threads) where
     plain_in =
         let c = current_in g h l in
         let e = next_goes s t l in
-        in_took g h (current_of s t) (plain_effect s t) (rw e (effect_goes c _ _ (seen_of s t (current_of s t)) no_queue l refl)) (λ b. absurd (false_true b)) (λ b. absurd (false_true b))
+        in_took g h (current_of s t) (plain_effect s t) (rw e (effect_goes c _ _ (seen_of s t (current_of s t)) no_queue l refl)) (λ b. absurd (false≢true b)) (λ b. absurd (false≢true b))
 
   take_goes : position_of s t < count_of s t → InRange (take_step s t).state
   unfolding take_step

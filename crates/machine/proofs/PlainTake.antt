@@ -1,10 +1,10 @@
 -- The next instruction of a thread on the one-memory machine, as the code carries it out.
 use Rattle.std.proofs.Common.{◌≡◌, ℕ, ◌<◌, ◌≤◌, true, sym, refl}
+use Rattle.std.proofs.lemmas.Bool.{false≢true}
 use Rattle.reader.specs.declared.state.Queue.{Queue}
 use Rattle.reader.specs.declared.state.State.{State}
 use Rattle.reader.specs.State.{no_queue, position_of, count_of}
 use Rattle.reader.specs.Range.{InRange}
-use Rattle.reader.proofs.Tests.{false_true}
 use Rattle.machine.specs.declared.hurdle.Hurdle.{Hurdle}
 use Rattle.machine.specs.declared.step.Next.{Next}
 use Rattle.machine.specs.Hurdle.{number_of}
@@ -24,7 +24,7 @@ plain_end s t h = rw (next_end s t h)
 -- nothing is put into a buffer
 pub at_once_puts : (e : Effect) {f : Effect} → f ≡ at_once e → pushes f ≡ true → ⊥
 unfolding at_once
-at_once_puts e q b = false_true (rw q at b)
+at_once_puts e q b = false≢true (rw q at b)
 
 pub plain_ended : {s : State} {t : ℕ} {h : Hurdle} → IsEnded s t h → refused_of s (number_of h) ≡ plain_step s t
 unfolding plain_step ended_of unless

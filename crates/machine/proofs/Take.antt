@@ -1,6 +1,7 @@
 -- The next instruction of a thread: what the code looks at, decides and stores is the step of the definition.
 use Rattle.std.specs.Prelude.{IsSome}
 use Rattle.std.proofs.Common.{ap, ◌≡◌, ℕ, zero, suc, ◌+◌, ◌-◌, ◌<◌, ◌≤◌, Bool, true, false, ◌||◌, eqb, leb, ◌⊎◌, sym, refl, ◌∙◌, subst, inl, inr, ⊎_elim, arith, le-ltb, lt-ltb, leb-false, leb-true}
+use Rattle.std.proofs.lemmas.Bool.{false≢true}
 use borrow.Author.Tests.{eqb-false}
 use Rattle.reader.specs.declared.state.Queue.{Queue}
 use Rattle.reader.specs.declared.state.Instruction.{Instruction}
@@ -12,7 +13,7 @@ use Rattle.reader.specs.State.{queue_of, position_of, count_of}
 use Rattle.reader.specs.Rules.{pick, within, BRANCH, item_fits, item_of}
 use Rattle.reader.specs.Drain.{Drainable}
 use Rattle.reader.specs.Range.{InRange}
-use Rattle.reader.proofs.Tests.{false_true, within_true}
+use Rattle.reader.proofs.Tests.{within_true}
 use Rattle.reader.proofs.Instructions.{InstructionIn, instruction_in}
 use Rattle.machine.specs.declared.effect.Seen.{Seen}
 use Rattle.machine.specs.declared.effect.Effect.{Effect}
@@ -105,7 +106,7 @@ module _ (x t : ℕ) where
   is_take = go (leb 17 x) refl
     where
       go : (b : Bool) → leb 17 x ≡ b → Take t ≡ pick b (Drain (x - 17)) (Take (x - 1)) → (x < 17) × (t ≡ x - 1)
-      go true b e = absurd (false_true (sym (ap takes e)))
+      go true b e = absurd (false≢true (sym (ap takes e)))
       go false b e = (leb-false 17 x b, ap row_of e)
 
   pub is_drain : Drain t ≡ item_of x → (17 ≤ x) × (t ≡ x - 17)
@@ -113,7 +114,7 @@ module _ (x t : ℕ) where
     where
       go : (b : Bool) → leb 17 x ≡ b → Drain t ≡ pick b (Drain (x - 17)) (Take (x - 1)) → (17 ≤ x) × (t ≡ x - 17)
       go true b e = (leb-true 17 x b, ap row_of e)
-      go false b e = absurd (false_true (ap takes e))
+      go false b e = absurd (false≢true (ap takes e))
 
   module _ (threads : ℕ) (f : item_fits threads x ≡ true) (k : threads ≤ THREADS) where
     pub take_there : Take t ≡ item_of x → t < threads
@@ -144,18 +145,18 @@ by_kind threads k P drains takes x f = go (leb 17 x) refl
 -- a store is the only action that puts something into the buffer
 pub room : (v : Seen) (depth : ℕ) (q : Queue) (a : Action) → blocked_of depth q a ≡ 0 → pushes (effect_of v q a) ≡ true → q.count < depth
 unfolding blocked_of effect_of guard
-room v depth q (Read c) z b = absurd (false_true b)
+room v depth q (Read c) z b = absurd (false≢true b)
 room v depth q (Store c x) z b = go (leb depth q.count) refl z
   where
     go : (t : Bool) → leb depth q.count ≡ t → guard t 22 0 ≡ 0 → q.count < depth
     go true e z = absurd (omega arith)
     go false e z = leb-false _ _ e
-room v depth q Fence z b = absurd (false_true b)
-room v depth q (Swap c old x) z b = absurd (false_true b)
-room v depth q (Acquire c mark) z b = absurd (false_true b)
-room v depth q (Release c) z b = absurd (false_true b)
-room v depth q (Silent n x) z b = absurd (false_true b)
-room v depth q End z b = absurd (false_true b)
+room v depth q Fence z b = absurd (false≢true b)
+room v depth q (Swap c old x) z b = absurd (false≢true b)
+room v depth q (Acquire c mark) z b = absurd (false≢true b)
+room v depth q (Release c) z b = absurd (false≢true b)
+room v depth q (Silent n x) z b = absurd (false≢true b)
+room v depth q End z b = absurd (false≢true b)
 
 -- a program at its end
 pub next_end : (s : State) (t : ℕ) → count_of s t ≤ position_of s t → next_of s t ≡ End

@@ -1,9 +1,9 @@
 -- The ten operations, one by one: each of them is an action.
 use Rattle.std.proofs.Common.{◌≡◌, ℕ, zero, suc, ◌+◌, ◌<◌, ◌≤◌, Bool, true, false, [], ◌∷◌, get_or, ℤ, refl, arith}
+use Rattle.std.proofs.lemmas.Bool.{false≢true}
 use Rattle.reader.specs.declared.state.Instruction.{Instruction}
 use Rattle.reader.specs.declared.state.Queue.{Queue}
 use Rattle.reader.specs.Rules.{pick, BRANCH}
-use Rattle.reader.proofs.Tests.{false_true}
 use Rattle.reader.proofs.Instructions.{InstructionIn}
 use Rattle.machine.specs.declared.effect.Seen.{Seen}
 use Rattle.machine.specs.Integer.{eq_z}
@@ -54,5 +54,5 @@ module _ {cells count : ℕ} {i : Instruction} (g : InstructionIn cells count i)
     effect_there b =
         g.cell
         (ten (λ (n : ℕ) (a : Action). pushes (effect_of v q a) ≡ true → n ≡ BRANCH → ⊥) _ _ _ _ _ _ _ _ _ _
-        (λ b e. omega arith) (λ b e. omega arith) (λ b e. omega arith) (λ b e. omega arith) (λ b e. omega arith) (λ b e. omega arith) (λ b e. omega arith) (λ b e. omega arith) (λ b e. false_true b) (λ b e. omega arith)
+        (λ b e. omega arith) (λ b e. omega arith) (λ b e. omega arith) (λ b e. omega arith) (λ b e. omega arith) (λ b e. omega arith) (λ b e. omega arith) (λ b e. omega arith) (λ b e. false≢true b) (λ b e. omega arith)
         i.operation g.known g.last b)

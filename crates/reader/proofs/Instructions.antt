@@ -6,11 +6,12 @@ use native.Mathlib.Omega.{arith}
 use lib.Dec.{eqb, ltb}
 use lib.IntN.{ℤ, pos, negsuc}
 use borrow.Author.Tests.{ltb-true, eqb-true, eq-eqb, ne_eqb}
+use Rattle.std.proofs.lemmas.Bool.{false≢true}
 use Rattle.reader.specs.declared.state.Instruction.{Instruction}
 use Rattle.reader.specs.Limits.{REGISTERS}
 use Rattle.reader.specs.Operations.{OPERATIONS, CELL, REGISTER, VALUE, uses_of}
 use Rattle.reader.specs.Rules.{pick, check, within, fits_of, BRANCH, bound_of, is_zero, cell_fits, register_fits, value_fits, instruction_bytes, instruction_wrong}
-use Rattle.reader.proofs.Tests.{false_true, within_true}
+use Rattle.reader.proofs.Tests.{within_true}
 
 pub record InstructionIn (cells count : ℕ) (i : Instruction) : Type 0 where
   pub known : 1 ≤ i.operation
@@ -41,7 +42,7 @@ module _ (used bound x : ℕ) (e : fits_of used bound x ≡ true) where
 
 zero_value_lem : (x : ℤ) → is_zero x ≡ true → x ≡ pos 0
 zero_value_lem (pos n) e = let z : n ≡ 0 = eqb-true _ _ e in rw z
-zero_value_lem (negsuc n) e = absurd (false_true e)
+zero_value_lem (negsuc n) e = absurd (false≢true e)
 
 module _ (cells count : ℕ) (i : Instruction) (some : 1 ≤ cells) (e : instruction_bytes ≤ instruction_wrong cells count i) where
   record Fits : Type 0 where

@@ -1,11 +1,12 @@
 -- Laws of a queue row over any depth: what a push and a pop do to the pending stores that the row stands for.
-use Prim.Native.Nat.{ℕ, zero, suc, ◌+◌, ◌-◌, ◌<◌, ◌≤◌}
-use mathlib.Core.Path.{◌≡◌, refl, ap, ◌∙◌}
-use mathlib.Core.List.{List, [], ◌∷◌, ◌++◌}
+use Prim.Native.Nat.{ℕ, ◌+◌, ◌-◌, ◌<◌, ◌≤◌}
+use mathlib.Core.Path.{◌≡◌, sym, ap, ◌∙◌}
+use mathlib.Core.List.{[], ◌∷◌, ◌++◌}
 use native.Mathlib.Omega.{arith}
 use native.Mathlib.Numerals.{add-one}
 use lib.ListN.{length, take, drop, length-take, length-drop, length-set, length-append}
 use lib.Seq.{take_at, take-suc-set}
+use Rattle.std.proofs.lemmas.List.{drop-take}
 use Rattle.reader.specs.declared.state.Pending.{Pending}
 use Rattle.reader.specs.declared.state.Queue.{Queue}
 use Rattle.reader.specs.State.{no_pending}
@@ -14,12 +15,6 @@ use Rattle.reader.specs.Queue.{pending, shifted, popped_of, pushed_of}
 -- the count of a row is the number of its pending stores
 pub length_pending : (q : Queue) → q.count ≤ length q.entries → length (pending q) ≡ q.count
 length_pending q h = simp length-take (omega arith)
-
-take_drop_one : {A : Type 0} (n : ℕ) (l : List A) → take n (drop 1 l) ≡ drop 1 (take (suc n) l)
-take_drop_one zero [] = refl
-take_drop_one (suc n) [] = refl
-take_drop_one zero (x ∷ l) = refl
-take_drop_one (suc n) (x ∷ l) = refl
 
 module _ (q : Queue) where
   module _ (some : 0 < q.count) (few : q.count ≤ length q.entries) where
@@ -30,9 +25,9 @@ module _ (q : Queue) where
     unfolding shifted
     pending_popped =
         let n = q.count - 1 in
-        let e : suc n ≡ q.count = omega arith in
+        let e : 1 + n ≡ q.count = omega arith in
         take_at (take n (drop 1 q.entries)) (no_pending ∷ drop (n + 1) q.entries) n moved
-        ∙ take_drop_one n q.entries
+        ∙ sym (drop-take 1 n q.entries)
         ∙ ap (λ (i : ℕ). drop 1 (take i q.entries)) e
 
     pub length_popped : length (popped_of q).entries ≡ length q.entries

@@ -21,14 +21,14 @@ use Rattle.std.proofs.lemmas.Iterator.Search.{all_from_yields_List}
 use Rattle.std.proofs.lemmas.List.{take_all, length-take}
 use Rattle.std.proofs.lemmas.List.Folds.{list_all_more}
 use Rattle.std.proofs.lemmas.List.FromFn.{length-range_with_len, get_or-range_with_len}
+use Rattle.std.proofs.lemmas.Bool.{false≢true}
 use Rattle.reader.specs.Rules.{pick}
-use Rattle.reader.proofs.Tests.{false_true}
 use Rattle.stepping.specs.Range.{all_below}
 
 module _ (test : ℕ → Bool) where
   pick_true : (a b : Bool) → pick a b false ≡ true → (a ≡ true) × (b ≡ true)
   pick_true true b e = (refl, e)
-  pick_true false b e = absurd (false_true e)
+  pick_true false b e = absurd (false≢true e)
 
   pub all_true : (n : ℕ) → all_below test n ≡ true → (k : ℕ) → k < n → test k ≡ true
   unfolding all_below

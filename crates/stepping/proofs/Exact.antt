@@ -6,6 +6,7 @@ use native.Mathlib.Omega.{arith}
 use native.Mathlib.Decide.{ℕ_discrete}
 use lib.Dec.{leb, ltb}
 use borrow.Author.Tests.{leb-true, ltb-true, le-leb, lt-ltb}
+use Rattle.std.proofs.lemmas.Bool.{and_parts, and_from}
 use Rattle.reader.specs.declared.state.State.{State}
 use Rattle.reader.specs.Limits.{THREADS, CELLS, DEPTH}
 use Rattle.reader.specs.State.{queue_of, count_of, owner_of, sharing_of}
@@ -14,7 +15,7 @@ use Rattle.reader.specs.Range.{CellIn, ProgramIn, QueueIn, InRange}
 use Rattle.reader.proofs.Tests.{within_true}
 use Rattle.reader.proofs.Instructions.{checked}
 use Rattle.stepping.specs.Range.{all_below, pending_fits, queue_fits, sizes_fit, cell_fits, instruction_fits, program_fits, position_fits, thread_fits, in_range_of}
-use Rattle.stepping.proofs.Tests.{both, both_true, true_within}
+use Rattle.stepping.proofs.Tests.{true_within}
 use Rattle.stepping.proofs.All.{all_true, true_all}
 
 -- the limits that the other tests rely on
@@ -27,13 +28,13 @@ module _ (s : State) where
   pub sizes_in : sizes_fit s ≡ true → SizesIn s
   unfolding sizes_fit
   sizes_in e =
-      let a = both (within 1 THREADS s.threads) _ e in
-      let b = both (within 1 CELLS s.cells) _ a.1 in
+      let a = and_parts (within 1 THREADS s.threads) _ e in
+      let b = and_parts (within 1 CELLS s.cells) _ a.1 in
       record { threads = within_true _ _ _ a.0; cells = within_true _ _ _ b.0; depth = within_true _ _ _ b.1 }
 
   in_sizes : InRange s → sizes_fit s ≡ true
   unfolding sizes_fit
-  in_sizes g = both_true (true_within g.some_threads g.threads) (both_true (true_within g.some_cells g.cells) (true_within g.some_depth g.depth))
+  in_sizes g = and_from _ _ (true_within g.some_threads g.threads) (and_from _ _ (true_within g.some_cells g.cells) (true_within g.some_depth g.depth))
 
   cell_in : (c : ℕ) → cell_fits s c ≡ true → CellIn s c
   unfolding cell_wrong
@@ -55,19 +56,19 @@ module _ (s : State) where
 
   program_in : (t : ℕ) → program_fits s t ≡ true → ProgramIn s t
   unfolding program_fits
-  program_in t e = let b = both _ _ e in record { few = leb-true _ _ b.0; right = λ k h. leb-true _ _ (all_true (instruction_fits s t) (count_of s t) b.1 k h) }
+  program_in t e = let b = and_parts _ _ e in record { few = leb-true _ _ b.0; right = λ k h. leb-true _ _ (all_true (instruction_fits s t) (count_of s t) b.1 k h) }
 
   in_program : (t : ℕ) → ProgramIn s t → program_fits s t ≡ true
   unfolding program_fits
-  in_program t x = both_true (le-leb _ _ x.few) (true_all (instruction_fits s t) (count_of s t) (λ k h. le-leb _ _ (x.right k h)))
+  in_program t x = and_from _ _ (le-leb _ _ x.few) (true_all (instruction_fits s t) (count_of s t) (λ k h. le-leb _ _ (x.right k h)))
 
   queue_in : (t : ℕ) → queue_fits s.cells s.depth (queue_of s t) ≡ true → QueueIn s t
   unfolding queue_fits
-  queue_in t e = let b = both _ _ e in record { few = leb-true _ _ b.0; exists = λ k h. ltb-true _ _ (all_true (pending_fits s.cells (queue_of s t)) (queue_of s t).count b.1 k h) }
+  queue_in t e = let b = and_parts _ _ e in record { few = leb-true _ _ b.0; exists = λ k h. ltb-true _ _ (all_true (pending_fits s.cells (queue_of s t)) (queue_of s t).count b.1 k h) }
 
   in_queue : (t : ℕ) → QueueIn s t → queue_fits s.cells s.depth (queue_of s t) ≡ true
   unfolding queue_fits
-  in_queue t x = both_true (le-leb _ _ x.few) (true_all (pending_fits s.cells (queue_of s t)) (queue_of s t).count (λ k h. lt-ltb _ _ (x.exists k h)))
+  in_queue t x = and_from _ _ (le-leb _ _ x.few) (true_all (pending_fits s.cells (queue_of s t)) (queue_of s t).count (λ k h. lt-ltb _ _ (x.exists k h)))
 
   -- what the test of a thread says
   record ThreadIn (t : ℕ) : Type 0 where
@@ -78,15 +79,15 @@ module _ (s : State) where
   thread_in : (t : ℕ) → thread_fits s t ≡ true → ThreadIn t
   unfolding thread_fits
   thread_in t e =
-      let a = both (program_fits s t) _ e in
-      let b = both (queue_fits s.cells s.depth (queue_of s t)) _ a.1 in
+      let a = and_parts (program_fits s t) _ e in
+      let b = and_parts (queue_fits s.cells s.depth (queue_of s t)) _ a.1 in
       record { program = program_in t a.0; queue = queue_in t b.0; position = b.1 }
 
   pub range_in : in_range_of s ≡ true → InRange s
   unfolding in_range_of
   range_in e =
-      let a = both (sizes_fit s) _ e in
-      let b = both (all_below (cell_fits s) s.cells) _ a.1 in
+      let a = and_parts (sizes_fit s) _ e in
+      let b = and_parts (all_below (cell_fits s) s.cells) _ a.1 in
       let z = sizes_in a.0 in
       let t : (t : ℕ) → t < s.threads → ThreadIn t = λ t h. thread_in t (all_true (thread_fits s) s.threads b.1 t h) in
       record {
@@ -105,6 +106,6 @@ module _ (s : State) where
   pub in_range : InRange s → in_range_of s ≡ true
   unfolding in_range_of thread_fits
   in_range g =
-      both_true (in_sizes g)
-      (both_true (true_all (cell_fits s) s.cells (λ c h. in_cell c (g.cell c h)))
-      (true_all (thread_fits s) s.threads (λ t h. both_true (in_program t (g.program t h)) (both_true (in_queue t (g.queue t h)) (le-leb _ _ (g.position t h))))))
+      and_from _ _ (in_sizes g)
+      (and_from _ _ (true_all (cell_fits s) s.cells (λ c h. in_cell c (g.cell c h)))
+      (true_all (thread_fits s) s.threads (λ t h. and_from _ _ (in_program t (g.program t h)) (and_from _ _ (in_queue t (g.queue t h)) (le-leb _ _ (g.position t h))))))

@@ -1,9 +1,9 @@
 -- Places beyond the counts are not judged: states that are the same within them are in range alike.
 use mathlib.Core.Bool.{Bool, true, false}
 use mathlib.Core.Path.{◌≡◌, refl, sym, ◌∙◌}
+use Rattle.std.proofs.lemmas.Bool.{false≢true}
 use Rattle.reader.specs.declared.state.State.{State}
 use Rattle.reader.specs.Range.{InRange}
-use Rattle.reader.proofs.Tests.{false_true}
 use Rattle.stepping.specs.Range.{in_range_of}
 use Rattle.stepping.specs.Beyond.{Alike}
 use Rattle.stepping.proofs.Exact.{range_in, in_range}
@@ -44,5 +44,5 @@ not_judged {s} {m} a = go (in_range_of m) (in_range_of s) refl refl
     go : (b c : Bool) → in_range_of m ≡ b → in_range_of s ≡ c → b ≡ c
     go true true e f = refl
     go false false e f = refl
-    go true false e f = absurd (false_true (sym f ∙ in_range s (alike_in (alike_sym a) (range_in m e))))
-    go false true e f = absurd (false_true (sym e ∙ in_range m (alike_in a (range_in s f))))
+    go true false e f = absurd (false≢true (sym f ∙ in_range s (alike_in (alike_sym a) (range_in m e))))
+    go false true e f = absurd (false≢true (sym e ∙ in_range m (alike_in a (range_in s f))))

@@ -5,10 +5,10 @@ use mathlib.Core.Path.{◌≡◌, refl, sym, ap, ◌∙◌}
 use native.Mathlib.Omega.{arith}
 use lib.Dec.{eqb}
 use borrow.Author.Tests.{eqb-true, eqb-false}
+use Rattle.std.proofs.lemmas.Bool.{false≢true}
 use Rattle.reader.specs.declared.state.State.{State}
 use Rattle.reader.specs.Rules.{item_fits}
 use Rattle.reader.specs.Range.{InRange}
-use Rattle.reader.proofs.Tests.{false_true}
 use Rattle.machine.specs.declared.action.Action.{Action}
 use Rattle.discipline.specs.Check.{answer, thread_of}
 use Rattle.discipline.specs.Meaning.{Against, at_end, fence_waits, swap_waits, buffer_full, load_local, load_dirty, store_others, swap_others, acquire_owned, acquire_pending, release_others, release_waits, Stops, stops_take, stops_drain}
@@ -69,8 +69,8 @@ module _ (s : State) (x : ℕ) where
       ten = λ e. absurd (omega arith);
       no_item = λ h k. refl;
       eight = λ e. (g, f);
-      as_above = λ h k. absurd (false_true (sym f ∙ k));
-      least = λ h k n. absurd (false_true (sym f ∙ k));
+      as_above = λ h k. absurd (false≢true (sym f ∙ k));
+      least = λ h k n. absurd (false≢true (sym f ∙ k));
       unopposed = λ e. absurd (omega arith);
       keeps = λ n. refl;
       steps = λ e. absurd (omega arith);
@@ -88,7 +88,7 @@ module _ (s : State) (x : ℕ) where
       said_taken z = record {
         out_of_range = λ n. absurd (n g);
         ten = λ e. absurd (omega arith);
-        no_item = λ h k. absurd (false_true (sym k ∙ f));
+        no_item = λ h k. absurd (false≢true (sym k ∙ f));
         eight = λ e. absurd (omega arith);
         as_above = λ h k. sym z;
         least = λ h k n. absurd (n refl);
@@ -111,7 +111,7 @@ module _ (s : State) (x : ℕ) where
           record {
             out_of_range = λ o. absurd (o g);
             ten = λ e. absurd (omega arith);
-            no_item = λ h k. absurd (false_true (sym k ∙ f));
+            no_item = λ h k. absurd (false≢true (sym k ∙ f));
             eight = λ e. absurd (omega arith);
             as_above = λ h k. refl;
             least = λ h k m. l;
@@ -136,6 +136,6 @@ module _ (s : State) (x : ℕ) where
   pub said : Said s x (stepped_of s x)
   said =
       stepped_cases s x (Said s x)
-      (λ e. said_out (λ g. false_true (sym e ∙ in_range s g)))
+      (λ e. said_out (λ g. false≢true (sym e ∙ in_range s g)))
       (λ e f. said_no_item (range_in s e) f)
       (λ e f. said_carried (range_in s e) f)
