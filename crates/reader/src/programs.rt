@@ -10,6 +10,7 @@ use crate::state::State;
 use crate::{bytes, field, rules};
 
 // One instruction: a field as a whole, and once it is there, its bytes in order.
+// Like `cells::cell` but for what is read and what judges it: a trait over the two would be longer than both.
 #[tactic(auto, unfolding(crate::specs::Case::instruction_judged, crate::specs::Case::field, crate::specs::Case::verdict_of))]
 fn instruction(case: &[u8], cells: usize, count: usize, at: usize) -> Result<usize, Refusal>
     ensures judged { judged_of result ≡ instruction_judged case.now cells count at }

@@ -150,6 +150,7 @@ impl State {
         ensures { self.new ≡ drained_of self.old t }
     {
         let oldest = self.queues[t].pop();
+        // `as`, since no `From` leads from u32 to usize.
         self.memory[oldest.cell as usize] = oldest.value;
     }
 

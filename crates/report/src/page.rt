@@ -49,6 +49,7 @@ impl<'a> Page<'a> {
         }
     }
 
+    // `as` for the place, since no `From` leads from usize to u64.
     fn answer(&mut self, number: u32, place: usize, thread: u32)
         requires { Fitting self.old (answer_line number place thread) }
         ensures { Puts (answer_line number place thread) self.old self.new }

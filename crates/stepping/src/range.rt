@@ -40,7 +40,7 @@ fn program_fits(s: &State, t: usize) -> bool
         })
 }
 
-// A buffer: no more pending stores than the depth, each to a cell.
+// A buffer: no more pending stores than the depth, each to a cell. `as`, since no `From` leads from u32 to usize.
 #[tactic(auto, unfolding(crate::specs::Range::queue_fits))]
 fn queue_fits(cells: usize, depth: usize, q: &Queue) -> bool
     requires { depth ≤ DEPTH }

@@ -2,6 +2,7 @@
 ghost use Rattle.std.specs.Prelude.{◌≡◌};
 ghost use Rattle.vectors.specs.Prefix.{length_of, seen_of};
 
+// `as`, since no `From` leads from u32 to usize.
 pub fn length(head: &[u8; 4]) -> usize
     ensures { result ≡ length_of head.now }
 {
