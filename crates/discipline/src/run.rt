@@ -29,8 +29,8 @@ impl Machine for Checked {
     }
 }
 
-// Every item is taken in turn until one is not. The k-th value is what the k-th item read, or 0. The one run, for the
-// items and states that this contract promises.
+// Every item is taken in turn until one is not. The k-th value is what the k-th item read, or 0. The one run:
+// whoever called that instead would have to show of each item what is shown here once.
 pub fn ran(s: &mut State, items: &[u8], values: &mut [i32]) -> Ended<Reason>
     requires { Runnable s.old × (Items s.old.threads items.now × (length items.now ≤ length values.old)) }
     ensures { Answers checked_of s.old items.now values.old (ran_of number_of s.new result) values.new }

@@ -7,7 +7,7 @@ use crate::integer;
 use reader::operations::Operation;
 use reader::state::Instruction;
 
-// The mark of a cell, numbered as it stands in the state.
+// The mark of a cell, numbered as it stands in the state, which `as` gives.
 #[derive(Clone, Copy, Debug, PartialEq, Eq)]
 pub enum Sharing {
     Local = 0,

@@ -50,6 +50,7 @@ pub struct Effect {
 pub fn cell_of(i: Instruction) -> usize
     ensures { result ≡ cell_of i }
 {
+    // `as` is what gives an enum's number: `try_from` of the operation would bring an error to pass over.
     if i.operation == Operation::Branch as u16 {
         0
     } else {

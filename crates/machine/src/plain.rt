@@ -51,8 +51,8 @@ impl Machine for OneMemory {
     }
 }
 
-// A whole order of threads, until the first that is at its end. One value for each step. The one run, for the orders
-// and threads that this contract promises.
+// A whole order of threads, until the first that is at its end. One value for each step. The one run: whoever
+// called that instead would have to show of each thread what is shown here once.
 pub fn ran(s: &mut State, order: &[u8], values: &mut [i32]) -> Ended<Hurdle>
     requires { InRange s.old × (Threads s.old.threads order.now × (length order.now ≤ length values.old)) }
     ensures { Answers plain_of s.old order.now values.old (ran_of number_of s.new result) values.new }

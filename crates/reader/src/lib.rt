@@ -21,7 +21,8 @@ pub mod state;
 use refusal::{Fault, Refusal};
 use state::State;
 
-// A case that was read: the state that it starts, and where its schedule stands: two places, as in the definition that its clause names.
+// A case that was read: the state that it starts, and where its schedule begins and how
+// many items it has: two numbers, as in the definition that its clause names.
 #[derive(Clone, Copy)]
 pub struct Case {
     pub state: State,

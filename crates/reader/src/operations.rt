@@ -50,6 +50,7 @@ impl Operation {
     pub fn uses(self, field: Field) -> bool
         ensures { from_bool result ≡ uses_of (number_of self) (column_of field) }
     {
+        // `as` is what gives an enum's number; a `From` for each table index would say the same in more lines.
         USES[self as usize - 1][field as usize]
     }
 }

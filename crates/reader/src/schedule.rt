@@ -30,7 +30,7 @@ fn items(case: &[u8], threads: usize, n: usize, mut at: usize) -> Result<usize, 
     Ok(at)
 }
 
-// The count of the schedule: one field of two bytes.
+// The count of the schedule: one field of two bytes. Like `field::count` but for what is read and its limits: what the two share is two lines.
 #[tactic(auto, unfolding(crate::specs::Case::item_count_judged, crate::specs::Case::field, crate::specs::Case::verdict_of))]
 fn count(case: &[u8], at: usize) -> Result<usize, Refusal>
     ensures judged { judged_of result ≡ item_count_judged case.now at }

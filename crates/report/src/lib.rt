@@ -18,7 +18,7 @@ pub const ITEM_BYTES: usize = 12;
 pub const ANSWER_BYTES: usize = 60;
 
 // The report of an answer and the two lists, at the front of the buffer; the rest of the buffer stays. Gives back how long it is. The answer is
-// handed over number by number: the signature is one that docs/LAYERS.md names, and callers have no struct of this crate.
+// handed over number by number: a struct of the report's own would be filled by each caller and taken apart again.
 pub fn report(
     number: u32,
     place: usize,

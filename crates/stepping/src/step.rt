@@ -1,4 +1,4 @@
-// The stepping call by value: a state and an item byte, whatever they hold. 10 first, then 8, then the checked step; 10 and 8 are numbers of this call alone.
+// The stepping call by value: a state and an item byte, whatever they hold. 10 first, then 8, then the checked step.
 ghost use Rattle.std.specs.Prelude.{◌≡◌};
 ghost use Rattle.reader.specs.Range.{Shaped};
 ghost use Rattle.stepping.specs.Step.{answer_to, stepped_of};

@@ -34,8 +34,8 @@ fn judge_next(length: usize) -> Result<(), CutShort> {
     Ok(())
 }
 
-// Goes on behind so many bytes, or to the end of the input. A `while`: each
-// turn takes off what `dropped` gives, whose clause shows that nothing of the next case is read away.
+// Goes on behind so many bytes, or to the end of the input. A `while`, since it ends with the bytes or with the input, whichever comes first: a `for`
+// would need a count of turns and a test of its own for the last one.
 fn pass_over(bytes: usize) {
     let mut left = bytes;
     while left > 0 {
