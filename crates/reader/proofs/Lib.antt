@@ -3,6 +3,7 @@ pub mod Row
 pub mod Tests
 pub mod Each
 pub mod Refused
+pub mod Told
 pub mod Fields
 pub mod Counts
 pub mod Instructions

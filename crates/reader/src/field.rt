@@ -6,6 +6,7 @@ ghost use Rattle.reader.specs.Case.{count_judged};
 ghost use Rattle.reader.specs.Refusal.{judged_of};
 ghost use Rattle.reader.specs.declared.refusal.Fault.TheVariants.{Missing};
 
+use crate::bytes;
 use crate::refusal::{Fault, Refusal};
 
 // Where a field of n bytes ends, which is refused unless it is wholly there.
@@ -13,7 +14,7 @@ pub fn end(case: &[u8], at: usize, n: usize) -> Result<usize, Refusal>
     ensures there { IfOk result (λ next. (next ≡ at + n) × (n ≤ length case.now - at)) }
     ensures missing { IfErr result (λ r. (r ≡ record { fault = Missing; place = at }) × (length case.now - at < n)) }
 {
-    if case.len().saturating_sub(at) < n {
+    if bytes::left(case, at) < n {
         return Err(Fault::Missing.at(at));
     }
     Ok(at + n)

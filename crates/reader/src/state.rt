@@ -95,18 +95,19 @@ impl Queue {
         self.count += 1;
     }
 
-    // Takes the oldest entry out: later ones move up, the vacated place is zeroed.
-    #[tactic(auto, using(crate::proofs::Shift::shift_up))]
+    // Takes the oldest entry out: later ones move up, the vacated place is zeroed. They come from a copy of the row, since a move within it needs `memmove`.
+    #[tactic(auto, using(crate::proofs::Shift::shifted_up))]
     pub fn pop(&mut self) -> Pending
         requires { (0 < self.old.count) × (self.old.count ≤ DEPTH) }
         ensures oldest { result ≡ get_or self.old.entries 0 no_pending }
         ensures left { self.new ≡ popped_of self.old }
     {
-        let oldest = self.entries[0];
-        self.entries.copy_within(1..self.count, 0);
-        self.count -= 1;
-        self.entries[self.count] = Pending::NONE;
-        oldest
+        let stores = self.entries;
+        let last = self.count - 1;
+        self.entries[..last].copy_from_slice(&stores[1..last + 1]);
+        self.entries[last] = Pending::NONE;
+        self.count = last;
+        stores[0]
     }
 }
 
