@@ -5,6 +5,7 @@ pub mod Take
 pub mod PlainTake
 pub mod Runs
 pub mod Steps
+pub mod Told
 pub mod Kept
 pub mod InRange
 pub mod Forward

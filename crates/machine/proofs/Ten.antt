@@ -1,4 +1,4 @@
--- The ten operations, one by one: each of them is an action.
+-- The ten operations, one by one: each of them is an action, and what is none of them is the end.
 use Rattle.std.proofs.Common.{◌≡◌, ℕ, zero, suc, ◌+◌, ◌<◌, ◌≤◌, Bool, true, false, [], ◌∷◌, get_or, ℤ, refl, arith}
 use Rattle.std.proofs.lemmas.Bool.{false≢true}
 use Rattle.reader.specs.declared.state.Instruction.{Instruction}
@@ -12,6 +12,37 @@ use Rattle.machine.specs.Plain.{ended_of}
 use Rattle.machine.specs.declared.action.Action.{Action}
 use Rattle.machine.specs.declared.action.Action.TheVariants.{End}
 use Rattle.machine.specs.Action.{action_of}
+
+-- a number that no operation has
+pub record NoneOfTen (n : ℕ) : Type 0 where
+  pub n1 : n ≡ 1 → ⊥
+  pub n2 : n ≡ 2 → ⊥
+  pub n3 : n ≡ 3 → ⊥
+  pub n4 : n ≡ 4 → ⊥
+  pub n5 : n ≡ 5 → ⊥
+  pub n6 : n ≡ 6 → ⊥
+  pub n7 : n ≡ 7 → ⊥
+  pub n8 : n ≡ 8 → ⊥
+  pub n9 : n ≡ 9 → ⊥
+  pub n10 : n ≡ 10 → ⊥
+
+past : (a1 a2 a3 a4 a5 a6 a7 a8 a9 a10 : Action) (n : ℕ) → NoneOfTen n → get_or (End ∷ a1 ∷ a2 ∷ a3 ∷ a4 ∷ a5 ∷ a6 ∷ a7 ∷ a8 ∷ a9 ∷ a10 ∷ []) n End ≡ End
+past a1 a2 a3 a4 a5 a6 a7 a8 a9 a10 zero k = refl
+past a1 a2 a3 a4 a5 a6 a7 a8 a9 a10 (suc zero) k = absurd (k.n1 refl)
+past a1 a2 a3 a4 a5 a6 a7 a8 a9 a10 (suc (suc zero)) k = absurd (k.n2 refl)
+past a1 a2 a3 a4 a5 a6 a7 a8 a9 a10 (suc (suc (suc zero))) k = absurd (k.n3 refl)
+past a1 a2 a3 a4 a5 a6 a7 a8 a9 a10 (suc (suc (suc (suc zero)))) k = absurd (k.n4 refl)
+past a1 a2 a3 a4 a5 a6 a7 a8 a9 a10 (suc (suc (suc (suc (suc zero))))) k = absurd (k.n5 refl)
+past a1 a2 a3 a4 a5 a6 a7 a8 a9 a10 (suc (suc (suc (suc (suc (suc zero)))))) k = absurd (k.n6 refl)
+past a1 a2 a3 a4 a5 a6 a7 a8 a9 a10 (suc (suc (suc (suc (suc (suc (suc zero))))))) k = absurd (k.n7 refl)
+past a1 a2 a3 a4 a5 a6 a7 a8 a9 a10 (suc (suc (suc (suc (suc (suc (suc (suc zero)))))))) k = absurd (k.n8 refl)
+past a1 a2 a3 a4 a5 a6 a7 a8 a9 a10 (suc (suc (suc (suc (suc (suc (suc (suc (suc zero))))))))) k = absurd (k.n9 refl)
+past a1 a2 a3 a4 a5 a6 a7 a8 a9 a10 (suc (suc (suc (suc (suc (suc (suc (suc (suc (suc zero)))))))))) k = absurd (k.n10 refl)
+past a1 a2 a3 a4 a5 a6 a7 a8 a9 a10 (suc (suc (suc (suc (suc (suc (suc (suc (suc (suc (suc n))))))))))) k = refl
+
+pub unknown_end : (i : Instruction) (at : ℕ) (x : ℤ) → NoneOfTen i.operation → action_of i at x ≡ End
+unfolding action_of
+unknown_end i at x k = past _ _ _ _ _ _ _ _ _ _ i.operation k
 
 -- what holds of each of the ten numbers with its action holds of any operation from 1 to 10
 pub ten : (P : ℕ → Action → Type 0) (a1 a2 a3 a4 a5 a6 a7 a8 a9 a10 : Action) → P 1 a1 → P 2 a2 → P 3 a3 → P 4 a4 → P 5 a5 → P 6 a6 → P 7 a7 → P 8 a8 → P 9 a9 → P 10 a10 → (n : ℕ) → 1 ≤ n → n ≤ 10 → P n (get_or (End ∷ a1 ∷ a2 ∷ a3 ∷ a4 ∷ a5 ∷ a6 ∷ a7 ∷ a8 ∷ a9 ∷ a10 ∷ []) n End)

@@ -34,6 +34,7 @@ pub enum Action {
 
 impl Action {
     // What an instruction at a position is, whose register holds so much.
+    #[inline(always)]
     #[tactic(auto, unfolding(crate::specs::Action::action_of))]
     pub fn of(i: Instruction, at: usize, content: i32) -> Self
         requires { at + 1 < 2 ^ 64 }

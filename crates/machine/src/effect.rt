@@ -75,6 +75,7 @@ pub fn code_place(t: usize, k: usize) -> usize
 }
 
 // What holds an action back, with so many stores pending.
+#[inline(always)]
 #[tactic(auto, unfolding(crate::specs::Effect::blocked_of, crate::specs::Effect::guard))]
 pub fn allowed(depth: usize, q: &Queue, action: Action) -> Result<(), Hurdle>
     ensures { test_of number_of result ≡ blocked_of depth q.now action }
@@ -88,6 +89,7 @@ pub fn allowed(depth: usize, q: &Queue, action: Action) -> Result<(), Hurdle>
 }
 
 // What an action does that is not held back.
+#[inline(always)]
 #[tactic(auto, unfolding(crate::specs::Effect::effect_of))]
 pub fn change(v: Seen, q: &Queue, action: Action) -> Effect
     requires { (v.at < INSTRUCTIONS) × (q.now.count ≤ DEPTH) }
@@ -129,6 +131,7 @@ pub fn change(v: Seen, q: &Queue, action: Action) -> Effect
 }
 
 // The state after instruction i of row t with an effect: the one place that stores it.
+#[inline(always)]
 #[tactic(auto, unfolding(crate::specs::Effect::took_of))]
 pub fn apply(s: &mut State, t: usize, i: Instruction, e: Effect)
     requires { Lookable t i × (IsSome e.pushed → (queue_of s.old t).count < DEPTH) }

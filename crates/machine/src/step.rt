@@ -23,6 +23,7 @@ pub struct Next {
 }
 
 // What row t is at; nothing at the end of its program.
+#[inline(always)]
 pub fn fetched(s: &State, t: usize) -> Result<Next, Hurdle>
     requires { InRange s.now × (t < s.now.threads) }
     ensures next { IfOk result (λ n. IsNext s.now t n) }
@@ -43,6 +44,7 @@ pub fn fetched(s: &State, t: usize) -> Result<Next, Hurdle>
 }
 
 // Carries out what row t is at, where nothing holds it back. Gives back what it read, or 0.
+#[inline(always)]
 pub fn carry_out(s: &mut State, t: usize, next: Next) -> i32
     requires { Ready s.old t next }
     ensures { taken_of s.new result ≡ take_step s.old t }
@@ -63,6 +65,7 @@ pub fn take(s: &mut State, t: usize) -> Result<i32, Hurdle>
 }
 
 // The oldest pending store of row t goes to memory; nothing is read.
+#[inline(always)]
 #[tactic(auto, unfolding(crate::specs::Step::drain_step, crate::specs::Effect::guard, crate::specs::Run::unless), using(crate::proofs::Take::row_drainable))]
 pub fn drain(s: &mut State, t: usize) -> Result<i32, Hurdle>
     requires { InRange s.old × (t < s.old.threads) }
