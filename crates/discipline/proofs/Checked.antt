@@ -20,7 +20,7 @@ use Rattle.reader.specs.declared.state.State.{State}
 use Rattle.machine.specs.declared.run.Ended.{Ended}
 use Rattle.machine.specs.Hurdle.{stop_of, ran_of}
 use Rattle.machine.specs.Run.{Ran, Answers}
-use Rattle.machine.proofs.Runs.{stop_within}
+use Rattle.machine.proofs.Runs.{ran_within, stop_within}
 use Rattle.discipline.specs.declared.breach.Reason.{Reason}
 use Rattle.discipline.specs.Reason.{number_of}
 use Rattle.discipline.proofs.Reasons.{reason_nonzero}
@@ -56,6 +56,15 @@ module _ {case : List ℕ} {r : Reading} (w : WellFormed case r) where
   items_read e values h =
       let l = schedule_length in
       rw e (schedule_items, omega arith)
+
+  -- a run ends no further on than the case does
+  pub place_within : {xs : List ℕ} → xs ≡ schedule_of case r → {vs vs' : List ℤ} {q : Ran} → Answers checked_of r.state xs vs q vs' → r.start + q.place ≤ length case
+  place_within {xs} ex a =
+      let e = w.schedule.ends in
+      let l : length xs ≡ r.items = rw ex schedule_length in
+      let p = ran_within checked_of r.state 0 xs in
+      let q = ap (λ (x : Ran). x.place) a.ran in
+      omega arith
 
   -- the item that stops the run is in the case
   pub stop_there : {xs : List ℕ} → xs ≡ schedule_of case r → {vs vs' : List ℤ} {q : Ran} → Answers checked_of r.state xs vs q vs' → (q.number ≡ 0 → ⊥) → r.start + q.place < length case

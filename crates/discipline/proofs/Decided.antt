@@ -5,18 +5,23 @@ use native.Mathlib.Omega.{arith}
 use borrow.Author.Tests.{ne_eqb}
 use Rattle.reader.specs.declared.state.State.{State}
 use Rattle.reader.specs.State.{queue_of}
+use Rattle.reader.specs.Range.{InRange}
 use Rattle.machine.specs.declared.step.Next.{Next}
 use Rattle.machine.specs.Action.{current_of, next_of}
 use Rattle.machine.specs.Effect.{blocked_of, took_of}
 use Rattle.machine.specs.Run.{refused_of, taken_of}
 use Rattle.machine.specs.Step.{IsNext, next_effect, take_step}
-use Rattle.machine.proofs.Take.{unless_zero, unless_not}
+use Rattle.machine.proofs.Take.{unless_zero, unless_not, row_few}
 use lib.IntN.{ℤ}
 use Rattle.discipline.specs.Table.{held_in, holding_of}
-use Rattle.discipline.specs.Elsewhere.{elsewhere_of}
+use Rattle.discipline.specs.Elsewhere.{Rows, elsewhere_of}
 use Rattle.discipline.specs.Rules.{broken_of}
 use Rattle.discipline.specs.Marks.{marks_of}
 use Rattle.discipline.specs.Step.{judged_of, next_broken, next_marks, checked_take}
+
+-- the rows of a state in range hold no more than there is room for
+pub rows_in : {s : State} → InRange s → Rows s.queues s.threads
+rows_in g = record { few_threads = g.threads; few = λ t h. row_few g h }
 
 -- what the machine answers, by its number
 module _ (s : State) (t : ℕ) where

@@ -15,7 +15,8 @@ pub fn is_pending(q: &Queue, cell: u32) -> bool
     buffer::newest(q.pending(), cell).is_some()
 }
 
-// Whether a store to the cell pends with a thread but that of row t.
+// Whether a store to the cell pends with a thread but that of row t. Not inline: only an ACQUIRE asks, and every other item would pay for it.
+#[inline(never)]
 pub fn is_elsewhere(s: &State, t: usize, cell: u32) -> bool
     requires { Rows s.now.queues s.now.threads }
     ensures { result ≡ elsewhere_of s.now.queues s.now.threads t cell }

@@ -8,6 +8,7 @@ use machine::action::{Action, Sharing};
 
 // What is held of an instruction's cell and of its thread's flag once it is taken. A store to any cell but an own local one sets the flag. An owner's number
 // is cast, which is proved to lose nothing: `try_from` would bring an error that cannot come.
+#[inline(always)]
 #[tactic(auto, unfolding(crate::specs::Marks::stored_of, crate::specs::Marks::marks_of))]
 pub fn marked(h: Held, t: usize, action: Action) -> Held
     requires { t < THREADS }

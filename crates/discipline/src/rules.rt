@@ -15,6 +15,7 @@ use machine::step::Next;
 use reader::state::{Queue, State};
 
 // An own cell, always; another only if it is shared and the flag is clear.
+#[inline(always)]
 #[tactic(auto, unfolding(crate::specs::Rules::load_breaks, machine::specs::Effect::guard))]
 fn load(t: usize, h: Held) -> Result<(), Breach>
     ensures { test_of breach_number result ≡ load_breaks t h }
@@ -32,6 +33,7 @@ fn load(t: usize, h: Held) -> Result<(), Breach>
 }
 
 // A cell that no other thread owns.
+#[inline(always)]
 #[tactic(auto, unfolding(crate::specs::Rules::store_breaks, machine::specs::Effect::guard))]
 fn store(t: usize, h: Held) -> Result<(), Breach>
     ensures { test_of breach_number result ≡ store_breaks t h }
@@ -43,6 +45,7 @@ fn store(t: usize, h: Held) -> Result<(), Breach>
 }
 
 // A cell without owner, to which no store pends elsewhere.
+#[inline(always)]
 #[tactic(auto, unfolding(crate::specs::Rules::acquire_breaks, machine::specs::Effect::guard))]
 fn acquire(t: usize, h: Held, elsewhere: bool) -> Result<(), Breach>
     ensures { test_of breach_number result ≡ acquire_breaks t h elsewhere }
@@ -57,6 +60,7 @@ fn acquire(t: usize, h: Held, elsewhere: bool) -> Result<(), Breach>
 }
 
 // An own cell, with the own buffer empty.
+#[inline(always)]
 #[tactic(auto, unfolding(crate::specs::Rules::release_breaks, machine::specs::Effect::guard))]
 fn release(t: usize, h: Held, q: &Queue) -> Result<(), Breach>
     ensures { test_of breach_number result ≡ release_breaks t h q.now }
@@ -72,6 +76,7 @@ fn release(t: usize, h: Held, q: &Queue) -> Result<(), Breach>
 
 // Which rule an action of row t breaks, of whose cell so much is held; `elsewhere` says whether a store to the cell pends with another thread. Row and
 // holding are two parameters of each rule, as of the definition that its clause names.
+#[inline(always)]
 #[tactic(auto, unfolding(crate::specs::Rules::broken_of))]
 pub fn broken(t: usize, h: Held, q: &Queue, elsewhere: bool, action: Action) -> Result<(), Breach>
     ensures { test_of breach_number result ≡ broken_of t h q.now elsewhere action }
@@ -86,6 +91,7 @@ pub fn broken(t: usize, h: Held, q: &Queue, elsewhere: bool, action: Action) -> 
 }
 
 // The same for the next instruction of row t. The other buffers are searched for an ACQUIRE alone.
+#[inline(always)]
 #[tactic(auto, unfolding(crate::specs::Rules::broken_of))]
 pub fn allowed(s: &State, t: usize, h: Held, next: Next) -> Result<(), Breach>
     requires { Rows s.now.queues s.now.threads × (t < THREADS) }

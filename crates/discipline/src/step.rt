@@ -14,6 +14,7 @@ use reader::item::Item;
 use reader::state::State;
 
 // The next instruction of row t.
+#[inline(always)]
 fn take(s: &mut State, t: usize) -> Result<i32, Reason>
     requires { Runnable s.old × (t < s.old.threads) }
     ensures { outcome_of number_of s.new result ≡ checked_take s.old t }
@@ -28,6 +29,7 @@ fn take(s: &mut State, t: usize) -> Result<i32, Reason>
 }
 
 // What the item read; or why it is not taken, and the state as it was.
+#[inline(always)]
 pub fn stepped(s: &mut State, item: u8) -> Result<i32, Reason>
     requires { Runnable s.old × (item_fits s.old.threads item ≡ true) }
     ensures { outcome_of number_of s.new result ≡ checked_of s.old item }
