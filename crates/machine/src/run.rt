@@ -1,5 +1,6 @@
-// A run of items, one after the other until one is not taken. Every machine of this product runs by this one function. What an item goes through, here
-// and in the layer above, is `inline(always)`: a step that is called for each item, with its answer in memory, takes up to twice as long.
+// A run of items, one after the other until one is not taken. Every machine of this product runs by this one function. The larger functions
+// that an item goes through, here and in the layer above, are `inline(always)`: with the step called for each item, and its answer in memory, a run takes up
+// to one and a half times as long.
 ghost use Rattle.std.specs.Prelude.{◌≡◌, ◌≢◌, ℕ, ◌≤◌, length, IfErr, OnOk, OnErr};
 ghost use Rattle.reader.specs.declared.state.State.{State};
 ghost use Rattle.machine.specs.Hurdle.{outcome_of, ran_of};
